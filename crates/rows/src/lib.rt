@@ -1,0 +1,8 @@
+// Row rules: how a bank's export is cut into rows.
+pub mod file;
+pub mod newline;
+pub mod piece;
+pub mod refusal;
+pub mod rule;
+pub mod sample;
+pub mod width;
