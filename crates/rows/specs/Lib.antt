@@ -7,6 +7,7 @@ pub mod Refusals
 pub mod Newlines
 pub mod Widths
 pub mod Samples
+pub mod Eithers
 pub mod Words
 pub mod Files
 pub mod Examples

@@ -28,5 +28,4 @@ pub fn set_on<R: RowRule>(rule: &mut R, file: &[u8]) -> Result<(), Refusal>
 // The worked cuts hold.
 pub fn worked_cuts()
     ensures { λ _. ⌜ Worked-cuts ⌝ }
-{
-}
+{}

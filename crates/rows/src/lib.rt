@@ -1,4 +1,5 @@
 // Row rules: how a bank's export is cut into rows.
+pub mod either;
 pub mod file;
 pub mod newline;
 pub mod piece;

@@ -46,9 +46,9 @@ returns-in-Row g c =
       tells = row-told (sample-from (m .frame) (s .left) (s .end) f below) r _ is;
       part = was .part;
       leaves = ap (λ (x : Meaning). sample-from (x .frame) (s .left - 1) (c .saturating-add-self .result) f (g .R·RowRule .ahead (c .next .last .self) f)) (was .kept)
-      ∙ ap (λ x. sample-from (m .frame) (s .left - 1) (c .saturating-add-self .result) f x) (was .leaves)
-      ∙ ap (λ t. record { rows = after .rows; tail = t }) (same-tail (m .frame) (s .left) (s .end) f below (c .if-self-eq0 .left) r here (c .saturating-add-self .result) small end)
-      ∙ row-gone (sample-from (m .frame) (s .left) (s .end) f below) r _ is;
+          ∙ ap (λ x. sample-from (m .frame) (s .left - 1) (c .saturating-add-self .result) f x) (was .leaves)
+          ∙ ap (λ t. record { rows = after .rows; tail = t }) (same-tail (m .frame) (s .left) (s .end) f below (c .if-self-eq0 .left) r here (c .saturating-add-self .result) small end)
+          ∙ row-gone (sample-from (m .frame) (s .left) (s .end) f below) r _ is;
       stays = λ z. absurd (row-there (sample-from (m .frame) (s .left) (s .end) f below) r _ is z);
       kept = ap (sampled (s .limit)) (was .kept);
     }

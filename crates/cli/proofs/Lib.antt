@@ -1,0 +1,3 @@
+-- Lemmas of the program's words.
+pub mod Counters
+pub mod Nested

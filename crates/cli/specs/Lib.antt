@@ -1,0 +1,4 @@
+-- The definitions that the contracts of the program's words cite.
+pub mod Chosen
+pub mod Listings
+pub mod Problems

@@ -1,0 +1,4 @@
+-- Lemmas of the header rule.
+pub mod HeadCuts
+pub mod HeadFrames
+pub mod HeadSteps

@@ -1,0 +1,2 @@
+-- The definitions that the contracts of the header rule cite.
+pub mod Heads
