@@ -9,7 +9,7 @@ use lib.Dec.{leb}
 use lib.ListN.{length, take, drop, set}
 use borrow.Author.Tests.{le-leb, lt-leb}
 use Rattle.std.proofs.shelf.Tests.{and-from, and-left, and-right}
-use Rattle.std.proofs.shelf.Lists.{take-append-drop, length-take-le, length-append, append-assoc, set-split}
+use Rattle.std.proofs.shelf.Lists.{take-append-drop, length-take-le, take-all, length-append, append-assoc, set-split}
 use Rattle.std.specs.declared.result.Result.the-variants.{Ok, Err}
 use Rattle.rows.specs.declared.refusal.Refusal.the-variants.{BufferTooShort}
 use Rattle.rows.specs.Frames.{Written, laid, written-if, framed}
@@ -41,8 +41,7 @@ row-and-byte n b buffer h =
     ∙ ap (λ i. (Ok i, (take n buffer ++ (b ∷ [])) ++ drop i buffer)) k
     ∙ ap (λ x. (Ok (n + 1), x)) (append-assoc (take n buffer) (b ∷ []) (drop (n + 1) buffer) ∙ ap (λ i. take n buffer ++ b ∷ drop i buffer) (add-one n) ∙ sym (set-split buffer n b h))
 
-pub byte-too-many : (n b : ℕ) (buffer : List ℕ) → n ≡ length buffer → framed (λ row. row ++ (b ∷ [])) n buffer ≡ (Err BufferTooShort, buffer)
+pub byte-too-many : (n b : ℕ) (buffer : List ℕ) → length buffer ≤ n → framed (λ row. row ++ (b ∷ [])) n buffer ≡ (Err BufferTooShort, buffer)
 byte-too-many n b buffer h =
-    let l : length (take n buffer) ≡ n = length-take-le n buffer (omega arith) in
-    let k : length (take n buffer ++ (b ∷ [])) ≡ n + 1 = length-append (take n buffer) (b ∷ []) ∙ ap (λ i. i + 1) l in
+    let l : length (take n buffer ++ (b ∷ [])) ≡ length buffer + 1 = length-append (take n buffer) (b ∷ []) ∙ ap (λ x. length x + 1) (take-all n buffer h) in
     no-room (λ row. row ++ (b ∷ [])) n buffer (omega arith)

@@ -6,7 +6,7 @@ use Prim.Native.Nat.{ℕ, zero, suc, _+_, _-_, _≤_, _<_}
 use native.Mathlib.Omega.{arith}
 use lib.Dec.{eqb}
 use lib.ListN.{length, take, drop}
-use borrow.Author.Tests.{eqb-true}
+use borrow.Author.Tests.{eqb-true, ne-eqb}
 use Rattle.std.proofs.shelf.Lists.{append-assoc, append-nil, length-append, drop-at, drop-all}
 use Rattle.std.proofs.shelf.Tests.{and-parts, and-from, not-true, not-from-false}
 use Rattle.rows.specs.Cuts.{RowAt, Text, text, texts, frames, Each, PartOf, Bytes, File}
@@ -89,11 +89,14 @@ Good [] = Unit {0}
 Good (t ∷ []) = newline-carries (t .bytes) (t .mark) ≡ true
 Good (t ∷ u ∷ ts) = (newline-carries (t .bytes) (t .mark) ≡ true) × (t .mark ≡ Ended) × Good (u ∷ ts)
 
+some-more : (b : ℕ) (bytes : List ℕ) → some (b ∷ bytes) ≡ true
+some-more b bytes = ap not (ne-eqb (suc (length bytes)) 0 (λ z. omega arith))
+
 carries-more : (b : ℕ) (bytes : List ℕ) (m : Mark) → eqb b 10 ≡ false → newline-carries bytes m ≡ true → newline-carries (b ∷ bytes) m ≡ true
 carries-more b bytes Ended n h = and-from (not (eqb b 10)) (lacks bytes) (not-from-false (eqb b 10) n) h
 carries-more b bytes Unended n h =
     let k = and-parts (lacks bytes) (some bytes) h in
-    and-from (lacks (b ∷ bytes)) true (and-from (not (eqb b 10)) (lacks bytes) (not-from-false (eqb b 10) n) (k .0)) refl
+    and-from (lacks (b ∷ bytes)) (some (b ∷ bytes)) (and-from (not (eqb b 10)) (lacks bytes) (not-from-false (eqb b 10) n) (k .0)) (some-more b bytes)
 
 put-good : (t : Bool) (p b : ℕ) (rs : List RowAt) → eqb b 10 ≡ t → Good (texts rs) → Good (texts (put t p b rs))
 put-good true p b [] e h = refl
@@ -133,7 +136,7 @@ line-unended p b (a ∷ bs) h =
 
 unended-back : (p : ℕ) (bs : List ℕ) → newline-carries bs Unended ≡ true → texts (lines p bs) ≡ record { bytes = bs; mark = Unended } ∷ []
 unended-back p [] h = let z : _≡_ {A = ℕ} 0 1 = cc in absurd (omega arith)
-unended-back p (b ∷ bs) h = ap texts (line-unended p b bs (and-parts (lacks (b ∷ bs)) true h .0))
+unended-back p (b ∷ bs) h = ap texts (line-unended p b bs (and-parts (lacks (b ∷ bs)) (some (b ∷ bs)) h .0))
 
 ended-back : (p : ℕ) (bs more : List ℕ) → lacks bs ≡ true → texts (lines p ((bs ++ (10 ∷ [])) ++ more)) ≡ record { bytes = bs; mark = Ended } ∷ texts (lines (p + length bs + 1) more)
 ended-back p bs more h = ap (λ x. texts (lines p x)) (append-assoc bs (10 ∷ []) more) ∙ ap texts (line-ended p bs more h)

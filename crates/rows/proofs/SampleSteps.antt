@@ -9,8 +9,8 @@ use lib.ListN.{length, take, drop}
 use Rattle.std.proofs.shelf.Lists.{length-append}
 use Rattle.rows.specs.Cuts.{RowAt, TailAt, Cut, texts, frames}
 use Rattle.rows.specs.Frames.{measured}
-use Rattle.rows.specs.Told.{Told, tail, piece-of, rest, behind}
-use Rattle.rows.specs.Samples.{frames-end, sample-from, rest-at}
+use Rattle.rows.specs.Told.{Told, tail, piece-of, rest, behind, rest-at}
+use Rattle.rows.specs.Samples.{frames-end, sample-from}
 use Rattle.rows.specs.declared.piece.Mark.{Mark}
 use Rattle.rows.specs.declared.sample.Sample.{Sample}
 use Rattle.rows.proofs.CutLaws.{tail-told}

@@ -1,5 +1,5 @@
 -- What a fixed width cuts, put together again: the fixed width rule keeps its laws.
-use mathlib.Core.Path.{_≡_, refl, sym, ap, subst, _∙_}
+use mathlib.Core.Path.{_≡_, refl, sym, ap, subst, _∙_, fun-ext}
 use mathlib.Core.Bool.{Bool, true, false}
 use mathlib.Core.List.{List, [], _∷_, _++_}
 use Prim.Native.Nat.{ℕ, zero, suc, _+_, _-_, _*_, _/_, _≤_, _<_}
@@ -11,7 +11,7 @@ use borrow.Author.Tests.{eqb-true}
 use Rattle.std.proofs.shelf.Lists.{append-assoc, take-append-drop, drop-drop, length-drop, length-append, length-take-le, take-at, drop-at}
 use Rattle.rows.specs.Cuts.{RowAt, TailAt, Text, text, texts, frames, Each, PartOf, File}
 use Rattle.rows.specs.Rules.{Meaning, Lawful, Exchange-leaves-the-rest, swapped}
-use Rattle.rows.specs.Widths.{slabs, fixed-count, fixed-from, fixed-frame, fixed-carries, fixed-meaning}
+use Rattle.rows.specs.Widths.{slabs, fixed-count, fixed-from, fixed-at, fixed-frame, fixed-carries, fixed-meaning}
 use Rattle.rows.specs.declared.piece.Mark.{Mark}
 use Rattle.rows.specs.declared.piece.Mark.the-variants.{Ended, Unended}
 use Rattle.rows.specs.Words.{Fixed-rows}
@@ -101,7 +101,17 @@ module _ (w : ℕ) (some : 1 ≤ w) where
   whole-wide : (file : List ℕ) → Wide w (texts (fixed-from w 0 file .rows))
   whole-wide file = subst (λ rs. Wide w (texts rs)) (sym (whole-rows file)) (slabs-wide (length file / w) w 0 file (div-mul-le-self (length file) w))
 
-  fixed-exchange : (file : List ℕ) → Exchange-leaves-the-rest (fixed-meaning w) file
+  -- the meaning with no place past the end in sight
+  abbrev plain : Meaning
+  plain = record { cut = fixed-from w 0; frame = fixed-frame; carries = fixed-carries w }
+
+  from-start : (file : List ℕ) → fixed-from w 0 file ≡ fixed-at w 0 file
+  from-start file = ap (λ p. fixed-from w p file) (omega arith)
+
+  same-meaning : plain ≡ fixed-meaning w
+  same-meaning = ap (λ c. record { cut = c; frame = fixed-frame; carries = fixed-carries w }) (fun-ext from-start)
+
+  fixed-exchange : (file : List ℕ) → Exchange-leaves-the-rest plain file
   fixed-exchange file before after old new other e _ h oe _ =
       let ts : List Text = before ++ swapped old new ∷ after in
       let t = fixed-from w 0 file .tail .bytes in
@@ -114,17 +124,25 @@ module _ (w : ℕ) (some : 1 ≤ w) where
         whole-tail other ∙ ap (λ n. drop (n * w) other) count ∙ ap (drop (length ts * w)) oe ∙ drop-at (frames fixed-frame ts) t (length ts * w) long,
       )
 
-  pub fixed-lawful : Lawful (fixed-meaning w)
-  fixed-lawful = record {
+  plain-lawful : Lawful plain
+  plain-lawful = record {
     parts = λ file _. (slabs-parts (fixed-count w 0 file) w 0 file (count-fits w 0 file (omega arith)), rest-part file (0 + fixed-count w 0 file * w) (count-fits w 0 file (omega arith)));
     no-empty = λ file _. slabs-not-empty (fixed-count w 0 file) w 0 file some (omega (arith, count-fits w 0 file (omega arith)));
     covers = λ file _. ap (λ k. frames fixed-frame (texts (slabs (fixed-count w 0 file) w 0 file)) ++ drop k file) (zero-add _) ∙ slabs-cover (fixed-count w 0 file) w 0 file;
     exchange = λ file _. fixed-exchange file;
   }
 
+  pub fixed-lawful : Lawful (fixed-meaning w)
+  fixed-lawful = subst Lawful same-meaning plain-lawful
+
 wide-each : (w : ℕ) (rs : List RowAt) → Wide w (texts rs) → Each (λ r. (length (r .bytes) ≡ w) × (r .mark ≡ Ended)) rs
 wide-each w [] k = tt
 wide-each w (r ∷ rs) k = ((k .0, k .1), wide-each w rs (k .2))
 
 pub fixed-words : (w : ℕ) → 1 ≤ w → (file : List ℕ) → Fixed-rows w file
-fixed-words w some file = record { wide = wide-each w (fixed-from w 0 file .rows) (whole-wide w some file); short-tail = little-left w some file }
+fixed-words w some file =
+    let here = from-start w some file in
+    record {
+      wide = subst (λ c. Each (λ r. (length (r .bytes) ≡ w) × (r .mark ≡ Ended)) (c .rows)) here (wide-each w (fixed-from w 0 file .rows) (whole-wide w some file));
+      short-tail = subst (λ c. length (c .tail .bytes) < w) here (little-left w some file);
+    }

@@ -2,6 +2,7 @@
 pub mod Cuts
 pub mod Rules
 pub mod Told
+pub mod Finds
 pub mod Frames
 pub mod Refusals
 pub mod Newlines

@@ -1,7 +1,7 @@
 -- What byte 0A cuts.
 use mathlib.Core.Bool.{Bool, true, false, _&&_, not}
 use mathlib.Core.List.{List, [], _∷_, _++_}
-use Prim.Native.Nat.{ℕ, suc, _+_}
+use Prim.Native.Nat.{ℕ, _+_}
 use lib.Dec.{eqb}
 use lib.ListN.{length, drop}
 use Rattle.rows.specs.Cuts.{RowAt, TailAt, Cut}
@@ -34,8 +34,7 @@ lacks [] = true
 lacks (b ∷ bs) = not (eqb b 10) && lacks bs
 
 abbrev pub some : List ℕ → Bool
-some [] = false
-some (b ∷ bs) = true
+some bs = not (eqb (length bs) 0)
 
 -- rows without 0A; an unended row must not be empty
 abbrev pub newline-carries : List ℕ → Mark → Bool
@@ -44,12 +43,3 @@ newline-carries bytes Unended = lacks bytes && some bytes
 
 abbrev pub newline-meaning : Meaning
 newline-meaning = record { cut = λ file. record { rows = lines 0 file; tail = record { start = length file; bytes = [] } }; frame = newline-frame; carries = newline-carries }
-
--- how many bytes stand before the first 0A, or all
-abbrev pub more : Bool → ℕ → ℕ
-more true n = 0
-more false n = suc n
-
-abbrev pub span : List ℕ → ℕ
-span [] = 0
-span (b ∷ bs) = more (eqb b 10) (span bs)

@@ -1,7 +1,7 @@
 -- What a fixed width cuts.
 use mathlib.Core.Bool.{Bool, true, false}
 use mathlib.Core.List.{List, [], _∷_}
-use Prim.Native.Nat.{ℕ, zero, suc, _+_, _-_, _*_, _/_}
+use Prim.Native.Nat.{ℕ, zero, suc, _+_, _-_, _*_, _/_, min}
 use lib.Dec.{eqb}
 use lib.ListN.{length, take, drop}
 use Rattle.rows.specs.Cuts.{RowAt, TailAt, Cut}
@@ -25,6 +25,10 @@ fixed-from w p file = record {
   tail = record { start = p + fixed-count w p file * w; bytes = drop (p + fixed-count w p file * w) file };
 }
 
+-- the same where the place may be past the file's end
+abbrev pub fixed-at : ℕ → ℕ → List ℕ → Cut
+fixed-at w p file = fixed-from w (min p (length file)) file
+
 -- a row of w bytes is its own frame
 abbrev pub fixed-frame : List ℕ → Mark → List ℕ
 fixed-frame bytes mark = bytes
@@ -35,4 +39,4 @@ fixed-carries w bytes Ended = eqb (length bytes) w
 fixed-carries w bytes Unended = false
 
 abbrev pub fixed-meaning : ℕ → Meaning
-fixed-meaning w = record { cut = fixed-from w 0; frame = fixed-frame; carries = fixed-carries w }
+fixed-meaning w = record { cut = fixed-at w 0; frame = fixed-frame; carries = fixed-carries w }

@@ -1,10 +1,16 @@
 // The newline rule: byte 0A ends a row.
 ghost use mathlib.Core.Path.{_≡_};
 ghost use mathlib.Core.List.{List};
-ghost use Prim.Native.Nat.{ℕ, _+_, _≤_};
-ghost use lib.ListN.{length, drop};
-ghost use Rattle.rows.specs.Newlines.{newline-from, newline-meaning, span};
+ghost use Prim.Native.Nat.{ℕ, _≤_, _<_};
+ghost use lib.ListN.{length, getD};
+ghost use Rattle.std.specs.Options.{Cases};
+ghost use Rattle.rows.specs.Finds.{Found-at};
+ghost use Rattle.rows.specs.Told.{Tells-tail, rest-at};
+ghost use Rattle.rows.specs.Newlines.{newline-from, newline-meaning, lacks};
 ghost use Rattle.rows.specs.Words.{Newline-rows};
+use crate::frames::row_alone;
+use crate::frames::row_and_byte;
+use crate::piece::Found;
 use crate::piece::Mark;
 use crate::piece::Piece;
 use crate::refusal::Refusal;
@@ -32,14 +38,47 @@ impl Newline {
 // Where the first 0A at or after a place stands, or the file's length.
 fn line_end(file: &[u8], start: usize) -> usize
     requires { ⌜ start ≤ length (now file) ⌝ }
-    ensures value { λ r. ⌜ r ≡ start + span (drop start (now (file .entry))) ⌝ }
-    ensures bound { λ r. ⌜ r ≤ length (now (file .entry)) ⌝ }
+    ensures bound { λ r. ⌜ (start ≤ r) × (r ≤ length (now (file .entry))) ⌝ }
+    ensures before { λ r. ⌜ ((k : ℕ) → start ≤ k → k < r → getD (now (file .entry)) k 0 ≡ 10 → ⊥) ⌝ }
+    ensures found { λ r. ⌜ (r < length (now (file .entry)) → getD (now (file .entry)) r 0 ≡ 10) ⌝ }
 {
-    let mut i = start;
-    while i < file.len() && file[i] != NEWLINE {
-        i += 1;
+    for i in start..file.len() {
+        if file[i] == NEWLINE {
+            return i;
+        }
     }
-    i
+    file.len()
+}
+
+// Whether no byte is 0A.
+fn lacks_newline(row: &[u8]) -> bool
+    ensures { λ r. ⌜ r ≡ lacks (now (row .entry)) ⌝ }
+{
+    line_end(row, 0) == row.len()
+}
+
+// The row at a place, or none where the file ends before it.
+fn row_at(file: &[u8], start: usize) -> Option<Found>
+    ensures { λ r. ⌜ Cases r (Tells-tail (newline-from start (now (file .entry))) (rest-at start (now (file .entry)))) (λ f. Found-at (now (file .entry)) (newline-from start (now (file .entry))) f newline-from) ⌝ }
+{
+    if start >= file.len() {
+        return None;
+    }
+    let end = line_end(file, start);
+    if end < file.len() {
+        return Some(Found {
+            start,
+            end,
+            mark: Mark::Ended,
+            next: end + 1,
+        });
+    }
+    Some(Found {
+        start,
+        end,
+        mark: Mark::Unended,
+        next: end,
+    })
 }
 
 pub impl RowRule for Newline as NewlineRule {
@@ -52,35 +91,19 @@ pub impl RowRule for Newline as NewlineRule {
     }
 
     fn next<'f>(&mut self, file: &'f [u8]) -> Piece<'f> {
-        let start = self.at;
-        if start >= file.len() {
-            return Piece::Tail {
-                start: file.len(),
-                bytes: &file[file.len()..],
-            };
-        }
-        let end = line_end(file, start);
-        if end < file.len() {
-            self.at = end + 1;
-            return Piece::Row {
-                start,
-                bytes: &file[start..end],
-                mark: Mark::Ended,
-            };
-        }
-        self.at = end;
-        Piece::Row {
-            start,
-            bytes: &file[start..end],
-            mark: Mark::Unended,
+        match row_at(file, self.at) {
+            Some(found) => {
+                self.at = found.next;
+                Piece::row_of(file, found)
+            }
+            None => Piece::tail_from(file, self.at),
         }
     }
 
     fn carries(&self, row: &[u8], mark: Mark) -> bool {
-        let clean = line_end(row, 0) == row.len();
         match mark {
-            Mark::Ended => clean,
-            Mark::Unended => clean && !row.is_empty(),
+            Mark::Ended => lacks_newline(row),
+            Mark::Unended => lacks_newline(row) && !row.is_empty(),
         }
     }
 
@@ -92,18 +115,9 @@ pub impl RowRule for Newline as NewlineRule {
     }
 
     fn frame_in(&self, buffer: &mut [u8], length: usize, mark: Mark) -> Result<usize, Refusal> {
-        if length > buffer.len() {
-            return Err(Refusal::BufferTooShort);
-        }
         match mark {
-            Mark::Unended => Ok(length),
-            Mark::Ended => {
-                if length == buffer.len() {
-                    return Err(Refusal::BufferTooShort);
-                }
-                buffer[length] = NEWLINE;
-                Ok(length + 1)
-            }
+            Mark::Ended => row_and_byte(buffer, length, NEWLINE),
+            Mark::Unended => row_alone(buffer, length),
         }
     }
 }

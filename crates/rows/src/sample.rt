@@ -1,12 +1,13 @@
 // The sample rule: the first so many rows of the rule below.
 ghost use mathlib.Core.Path.{_≡_};
-ghost use mathlib.Core.List.{List};
-ghost use Prim.Native.Nat.{ℕ, _≤_, _<_};
+ghost use mathlib.Core.List.{List, []};
+ghost use Prim.Native.Nat.{ℕ, _+_, _-_, _≤_, _<_};
 ghost use Rattle.rows.specs.Cuts.{File};
 ghost use Rattle.std.specs.Results.{Cases};
 ghost use Rattle.rows.specs.declared.refusal.Refusal.the-variants.{OutOfRange};
-ghost use Rattle.rows.specs.Samples.{sample-from, sampled, rest-at};
-ghost use Rattle.rows.specs.Told.{told, Of};
+ghost use Rattle.rows.specs.Samples.{sampled, sample-ahead, Handed-on};
+ghost use Rattle.rows.specs.Frames.{measured};
+ghost use lib.ListN.{take};
 ghost use Rattle.rows.specs.Words.{Sample-rows};
 use crate::piece::Mark;
 use crate::piece::Piece;
@@ -45,15 +46,35 @@ impl<R: RowRule + Drop> Sample<R> {
 }
 
 impl<R> Sample<R> {
-    // The tail: the file from where the frames of the rows handed out end.
-    fn tail<'f>(&self, file: &'f [u8]) -> Piece<'f>
-        ensures tells { λ r. ⌜ told r ≡ rest-at (now (self .entry) .end) (now (file .entry)) ⌝ }
-        ensures part { λ r. ⌜ Of (now (file .entry)) (told r) ⌝ }
+    // One row was handed out, with a frame of so many bytes.
+    fn count(&mut self, frame: usize)
+        requires { ⌜ 0 < now self .left ⌝ }
+        ensures left { λ _. ⌜ now (self .exit) .left ≡ now (self .entry) .left - 1 ⌝ }
+        ensures end { λ _. ⌜ now (self .exit) .end ≡ measured (now (self .entry) .end + frame) ⌝ }
+        ensures same { λ _. ⌜ (now (self .exit) .limit ≡ now (self .entry) .limit) × (now (self .exit) .below ≡ now (self .entry) .below) ⌝ }
     {
-        let start = self.end.min(file.len());
-        Piece::Tail {
-            start,
-            bytes: &file[start..],
+        self.left -= 1;
+        self.end = self.end.saturating_add(frame);
+    }
+}
+
+impl<R: RowRule> Sample<R> {
+    // The next row below, if one more is wanted and there is one.
+    fn row_below<'f>(&mut self, file: &'f [u8]) -> Option<Piece<'f>>
+        ensures hands { λ r. ⌜ Handed-on (now (file .entry)) (sample-ahead (R·RowRule .means) (R·RowRule .ahead) (now (self .entry) .left) (now (self .entry) .end) (now (self .entry) .below) (now (file .entry))) (sample-ahead (R·RowRule .means) (R·RowRule .ahead) (now (self .exit) .left) (now (self .exit) .end) (now (self .exit) .below) (now (file .entry))) r (now (self .exit) .end) ⌝ }
+        ensures stays { λ _. ⌜ (take (now (self .entry) .left) (R·RowRule .ahead (now (self .entry) .below) (now (file .entry)) .rows) ≡ [] → now (self .exit) ≡ now (self .entry)) ⌝ }
+        ensures kept { λ _. ⌜ (now (self .exit) .limit ≡ now (self .entry) .limit) × (R·RowRule .means (now (self .exit) .below) ≡ R·RowRule .means (now (self .entry) .below)) ⌝ }
+    {
+        if self.left == 0 {
+            return None;
+        }
+        match self.below.next(file) {
+            Piece::Row { start, bytes, mark } => {
+                let frame = self.below.frame_length(bytes, mark);
+                self.count(frame);
+                Some(Piece::Row { start, bytes, mark })
+            }
+            Piece::Tail { .. } => None,
         }
     }
 }
@@ -61,7 +82,7 @@ impl<R> Sample<R> {
 pub impl<R: RowRule> RowRule for Sample<R> as SampleRule {
     ghost means = { λ s. sampled (s .limit) (R·RowRule .means (s .below)) };
 
-    ghost ahead = { λ s file. sample-from (R·RowRule .means (s .below) .frame) (s .left) (s .end) file (R·RowRule .ahead (s .below) file) };
+    ghost ahead = { λ s. sample-ahead (R·RowRule .means) (R·RowRule .ahead) (s .left) (s .end) (s .below) };
 
     fn set(&mut self, file: &[u8]) {
         self.left = self.limit;
@@ -70,17 +91,9 @@ pub impl<R: RowRule> RowRule for Sample<R> as SampleRule {
     }
 
     fn next<'f>(&mut self, file: &'f [u8]) -> Piece<'f> {
-        if self.left == 0 {
-            return self.tail(file);
-        }
-        match self.below.next(file) {
-            Piece::Row { start, bytes, mark } => {
-                let frame = self.below.frame_length(bytes, mark);
-                self.left -= 1;
-                self.end = self.end.saturating_add(frame);
-                Piece::Row { start, bytes, mark }
-            }
-            Piece::Tail { .. } => self.tail(file),
+        match self.row_below(file) {
+            Some(piece) => piece,
+            None => Piece::tail_from(file, self.end),
         }
     }
 

@@ -1,12 +1,16 @@
 // The fixed width rule: each so many bytes are a row.
 ghost use mathlib.Core.Path.{_≡_};
 ghost use mathlib.Core.List.{List};
-ghost use Prim.Native.Nat.{ℕ, _≤_, min};
-ghost use lib.ListN.{length};
+ghost use Prim.Native.Nat.{ℕ, _≤_};
+ghost use Rattle.std.specs.Options as Options;
+ghost use Rattle.rows.specs.Finds.{Found-at};
+ghost use Rattle.rows.specs.Told.{Tells-tail, rest-at};
 ghost use Rattle.std.specs.Results.{Cases};
 ghost use Rattle.rows.specs.declared.refusal.Refusal.the-variants.{OutOfRange};
-ghost use Rattle.rows.specs.Widths.{fixed-from, fixed-meaning};
+ghost use Rattle.rows.specs.Widths.{fixed-at, fixed-meaning};
 ghost use Rattle.rows.specs.Words.{Fixed-rows};
+use crate::frames::row_alone;
+use crate::piece::Found;
 use crate::piece::Mark;
 use crate::piece::Piece;
 use crate::refusal::Refusal;
@@ -34,31 +38,41 @@ impl FixedWidth {
         }
         Ok(FixedWidth { width, at: 0 })
     }
+
+    // The row to come, or none where fewer bytes than the width are left.
+    fn row_at(&self, file: &[u8]) -> Option<Found>
+        ensures { λ r. ⌜ Options.Cases r (Tells-tail (fixed-at (now (self .entry) .width) (now (self .entry) .at) (now (file .entry))) (rest-at (now (self .entry) .at) (now (file .entry)))) (λ f. Found-at (now (file .entry)) (fixed-at (now (self .entry) .width) (now (self .entry) .at) (now (file .entry))) f (fixed-at (now (self .entry) .width))) ⌝ }
+    {
+        let start = self.at.min(file.len());
+        if file.len() - start < self.width {
+            return None;
+        }
+        let end = start + self.width;
+        Some(Found {
+            start,
+            end,
+            mark: Mark::Ended,
+            next: end,
+        })
+    }
 }
 
 pub impl RowRule for FixedWidth as FixedRule {
     ghost means = { λ s. fixed-meaning (s .width) };
 
-    ghost ahead = { λ s file. fixed-from (s .width) (min (s .at) (length file)) file };
+    ghost ahead = { λ s. fixed-at (s .width) (s .at) };
 
     fn set(&mut self, _file: &[u8]) {
         self.at = 0;
     }
 
     fn next<'f>(&mut self, file: &'f [u8]) -> Piece<'f> {
-        let start = self.at.min(file.len());
-        if file.len() - start < self.width {
-            return Piece::Tail {
-                start,
-                bytes: &file[start..],
-            };
-        }
-        let end = start + self.width;
-        self.at = end;
-        Piece::Row {
-            start,
-            bytes: &file[start..end],
-            mark: Mark::Ended,
+        match self.row_at(file) {
+            Some(found) => {
+                self.at = found.next;
+                Piece::row_of(file, found)
+            }
+            None => Piece::tail_from(file, self.at),
         }
     }
 
@@ -74,9 +88,6 @@ pub impl RowRule for FixedWidth as FixedRule {
     }
 
     fn frame_in(&self, buffer: &mut [u8], length: usize, _mark: Mark) -> Result<usize, Refusal> {
-        if length > buffer.len() {
-            return Err(Refusal::BufferTooShort);
-        }
-        Ok(length)
+        row_alone(buffer, length)
     }
 }

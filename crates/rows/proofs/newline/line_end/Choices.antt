@@ -1,12 +1,8 @@
--- The search for 0A: what is left of the span, and what is left of the file.
+-- No byte from the start up to here is 0A.
+use Prim.Native.Nat.{ℕ, _≤_, _<_}
 use mathlib.Core.Path.{_≡_}
-use Prim.Native.Nat.{_+_, _-_, _≤_}
-use lib.ListN.{length, drop}
-use Rattle.rows.specs.Newlines.{span}
+use lib.ListN.{getD}
 use Rattle.rows.proofs.newline.line_end.Given as given
 
 abbrev pub Inv-loop-i : given.InvT-loop-i
-Inv-loop-i l = (l .i ≤ length (l .file)) × (l .i + span (drop (l .i) (l .file)) ≡ l .start + span (drop (l .start) (l .file)))
-
-abbrev pub μ-loop-i : given.MeasureT-loop-i
-μ-loop-i l = length (l .file) - l .i
+Inv-loop-i l = (k : ℕ) → l .start ≤ k → k < l .i → getD (l .file) k 0 ≡ 10 → ⊥
