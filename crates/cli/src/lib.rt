@@ -2,4 +2,6 @@
 pub mod listing;
 pub mod problems;
 pub mod rules;
+#[cfg(test)]
+mod tests;
 pub mod texts;

@@ -36,8 +36,9 @@ pub fn stop(rt: &LibcRuntime, problem: Problem) -> Result<Outcome, AnyError> {
 }
 
 // Does what the words after the program's own name ask.
-fn run(rt: &LibcRuntime, words: &[String]) -> Result<Outcome, AnyError> {
-    match words {
+fn run(rt: &LibcRuntime) -> Result<Outcome, AnyError> {
+    let words = words_of(rt)?;
+    match words.as_slice() {
         [] | [_] => {
             rt.print(HELP)?;
             Ok(Outcome::Done)
@@ -60,8 +61,7 @@ fn words_of(rt: &LibcRuntime) -> Result<Vec<String>, AnyError> {
 }
 
 fn main(rt: LibcRuntime) -> Result<(), AnyError> {
-    let words = words_of(&rt)?;
-    match run(&rt, words.as_slice()) {
+    match run(&rt) {
         Ok(Outcome::Done) => Ok(()),
         Ok(Outcome::Stopped) => Err("stopped".into()),
         Err(error) => {
