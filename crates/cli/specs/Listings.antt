@@ -1,6 +1,6 @@
 -- What `neskvaru rows` writes: a line for each row in order, one for the tail, a summary, and a notice where the closing row is unended.
 use mathlib.Core.Path.{_≡_}
-use mathlib.Core.Bool.{Bool, true, false, cond}
+use mathlib.Core.Bool.{Bool, cond}
 use mathlib.Core.List.{List, [], _∷_, _++_}
 use Prim.Native.Nat.{ℕ, _+_}
 use lib.Chars.{codes}
@@ -25,8 +25,12 @@ word Unended = codes "unended"
 abbrev pub row-line : ℕ → ℕ → ℕ → Mark → List ℕ
 row-line number start len mark = codes "row " ++ (decimal number ++ (codes ": start " ++ (decimal start ++ (codes ", length " ++ (decimal len ++ (codes ", " ++ word mark))))))
 
+-- an empty tail needs no words, and any other has bytes that no row has
+abbrev pub tail-words : ℕ → List ℕ
+tail-words len = cond (eqb len 0) [] (codes ": these bytes belong to no row")
+
 abbrev pub tail-line : ℕ → ℕ → List ℕ
-tail-line start len = codes "tail: start " ++ (decimal start ++ (codes ", length " ++ decimal len))
+tail-line start len = codes "tail: start " ++ (decimal start ++ (codes ", length " ++ (decimal len ++ tail-words len)))
 
 -- `1 row`, `2 rows`
 abbrev pub ending : ℕ → List ℕ
@@ -35,8 +39,11 @@ ending n = cond (eqb n 1) [] (codes "s")
 abbrev pub plural : ℕ → List ℕ → List ℕ
 plural n noun = decimal n ++ (codes " " ++ (noun ++ ending n))
 
+abbrev pub summed : List ℕ → List ℕ → List ℕ
+summed rows bytes = rows ++ (codes "; the file has " ++ bytes)
+
 abbrev pub summary-line : ℕ → ℕ → List ℕ
-summary-line count size = plural count (codes "row") ++ (codes ", " ++ plural size (codes "byte"))
+summary-line count size = summed (plural count (codes "row")) (plural size (codes "byte"))
 
 abbrev pub notice-line : ℕ → List ℕ
 notice-line number = codes "notice: the closing row, row " ++ (decimal number ++ codes ", has no newline at its end; it is a row like the others and is counted")
@@ -58,7 +65,7 @@ notice-if last n = cond last (notice-line n ∷ []) []
 abbrev pub closing-lines : TailAt → Bool → ℕ → ℕ → List (List ℕ)
 closing-lines tail last count size = tail-line (tail .start) (length (tail .bytes)) ∷ summary-line count size ∷ notice-if last count
 
--- THE LISTING of a cut of so many bytes
+-- the whole listing: a file's cut, and how many bytes the file has
 abbrev pub listing : Cut → ℕ → List (List ℕ)
 listing c size = row-lines (λ n. n + 1) 0 (c .rows) ++ closing-lines (c .tail) (last-unended (c .rows)) (length (c .rows)) size
 

@@ -53,7 +53,7 @@ impl<'f, R: RowRule + Drop> Listing<'f, R> {
         })
     }
 
-    // The next line, or none where all are told.
+    // The next line, or none where all are told. Where memory fails, a line may be lost: then make the listing anew.
     pub fn next_line(&mut self, heap: Global) -> Result<Option<String>, AllocError>
         ensures { λ r. ⌜ made r (λ o. Tells string-bytes o (left (R·RowRule .ahead) (now (self .entry))) (left (R·RowRule .ahead) (now (self .exit)))) ⌝ }
     {

@@ -12,10 +12,8 @@ use rows::newline::Newline;
 use rows::newline::NewlineRule;
 use rows::refusal::Refusal;
 use rows::rule::RowRule;
-use rows::sample::Sample;
 use rows::sample::SampleRule;
 use rows::width::FixedRule;
-use rows::width::FixedWidth;
 use std::alloc::Global;
 use std::test::*;
 
@@ -41,36 +39,45 @@ fn newline_rows_are_listed(rt: LibcRuntime) -> Result<(), Fail> {
     let heap = rt.alloc();
     check_eq(
         listed(heap, Newline::new(), b"")?.as_str(),
-        "tail: start 0, length 0\n0 rows, 0 bytes\n",
+        "tail: start 0, length 0\n0 rows; the file has 0 bytes\n",
     )?;
     check_eq(
         listed(heap, Newline::new(), b"\n")?.as_str(),
-        "row 1: start 0, length 0, ended\ntail: start 1, length 0\n1 row, 1 byte\n",
+        "row 1: start 0, length 0, ended\ntail: start 1, length 0\n1 row; the file has 1 byte\n",
     )?;
     check_eq(
         listed(heap, Newline::new(), b"a\nb")?.as_str(),
-        "row 1: start 0, length 1, ended\nrow 2: start 2, length 1, unended\ntail: start 3, length 0\n2 rows, 3 bytes\nnotice: the closing row, row 2, has no newline at its end; it is a row like the others and is counted\n",
+        "row 1: start 0, length 1, ended\nrow 2: start 2, length 1, unended\ntail: start 3, length 0\n2 rows; the file has 3 bytes\nnotice: the closing row, row 2, has no newline at its end; it is a row like the others and is counted\n",
     )
 }
 
+// The lines of the listing of a file under the rule that some words stand for.
+fn listed_by(heap: Global, words: &str, file: &[u8]) -> Result<String, Fail> {
+    match rule_of(words) {
+        Ok(rule) => listed(heap, rule, file),
+        Err(_) => Err(Fail::new("no rule")),
+    }
+}
+
 #[test]
-fn other_rules_are_listed(rt: LibcRuntime) -> Result<(), Fail> {
+fn words_choose_the_rule(rt: LibcRuntime) -> Result<(), Fail> {
     let heap = rt.alloc();
-    let two = match FixedWidth::new(2) {
-        Ok(rule) => rule,
-        Err(_) => return Err(Fail::new("a width of two")),
-    };
     check_eq(
-        listed(heap, two, b"abc")?.as_str(),
-        "row 1: start 0, length 2, ended\ntail: start 2, length 1\n1 row, 3 bytes\n",
+        listed_by(heap, "fixed:2", b"abc")?.as_str(),
+        "row 1: start 0, length 2, ended\ntail: start 2, length 1: these bytes belong to no row\n1 row; the file has 3 bytes\n",
     )?;
-    let first = match Sample::new(1, Newline::new()) {
-        Ok(rule) => rule,
-        Err(_) => return Err(Fail::new("a sample of one")),
-    };
+    let one =
+        "row 1: start 0, length 1, ended\ntail: start 2, length 1: these bytes belong to no row\n1 row; the file has 3 bytes\n";
+    for words in [
+        "sample:1:newline",
+        "sample:1:sample:2:newline",
+        "sample:2:sample:1:newline",
+    ] {
+        check_eq(listed_by(heap, words, b"a\nb")?.as_str(), one)?;
+    }
     check_eq(
-        listed(heap, first, b"a\nb")?.as_str(),
-        "row 1: start 0, length 1, ended\ntail: start 2, length 1\n1 row, 3 bytes\n",
+        listed_by(heap, "sample:0:fixed:3", b"abc")?.as_str(),
+        "tail: start 0, length 3: these bytes belong to no row\n0 rows; the file has 3 bytes\n",
     )
 }
 
@@ -131,7 +138,15 @@ fn problems_are_told(rt: LibcRuntime) -> Result<(), Fail> {
         "neskvaru: cannot read the file 'x.csv': No such file or directory",
     )?;
     check_eq(
-        problem_text(heap, Problem::TooLong("x.csv"))?.as_str(),
-        "neskvaru: refused, number 8: the file 'x.csv' has more than 16777216 bytes",
+        problem_text(heap, Problem::WrongWords("rows RULE FILE"))?.as_str(),
+        "neskvaru: too few or too many words; write: neskvaru rows RULE FILE",
+    )?;
+    check_eq(
+        problem_text(heap, Problem::Refused(Refusal::FileTooLong, "x.csv"))?.as_str(),
+        "neskvaru: refused, number 8: a file has more than 16777216 bytes: 'x.csv'",
+    )?;
+    check_eq(
+        problem_text(heap, Problem::Refused(Refusal::OutOfRange, "fixed:0"))?.as_str(),
+        "neskvaru: refused, number 11: a width is not 1 to 4096, or a sample is not 0 to 16777216: 'fixed:0'",
     )
 }

@@ -2,7 +2,7 @@
 ghost use mathlib.Core.Path.{_≡_};
 ghost use Rattle.std.specs.Of.String.{string-bytes};
 ghost use Rattle.std.specs.Vec.{made};
-ghost use Rattle.cli.specs.Listings.{word, row-line, tail-line, ending, plural, summary-line, notice-line};
+ghost use Rattle.cli.specs.Listings.{word, row-line, tail-words, tail-line, ending, plural, summary-line, notice-line};
 use rows::piece::Mark;
 use std::alloc::AllocError;
 use std::alloc::Global;
@@ -30,10 +30,22 @@ pub fn row_text(
     format!(heap, "row {number}: start {start}, length {length}, {word}")
 }
 
+// What is said of a tail that is not empty.
+fn tail_note(length: usize) -> &'static str
+    ensures { λ r. ⌜ now r ≡ tail-words length ⌝ }
+{
+    if length == 0 {
+        ""
+    } else {
+        ": these bytes belong to no row"
+    }
+}
+
 pub fn tail_text(heap: Global, start: usize, length: usize) -> Result<String, AllocError>
     ensures { λ r. ⌜ made r (λ s. string-bytes s ≡ tail-line start length) ⌝ }
 {
-    format!(heap, "tail: start {start}, length {length}")
+    let note = tail_note(length);
+    format!(heap, "tail: start {start}, length {length}{note}")
 }
 
 pub fn notice_text(heap: Global, number: usize) -> Result<String, AllocError>
@@ -65,5 +77,5 @@ pub fn summary_text(heap: Global, count: usize, size: usize) -> Result<String, A
 {
     let rows = plural_text(heap, count, "row")?;
     let bytes = plural_text(heap, size, "byte")?;
-    format!(heap, "{rows}, {bytes}")
+    format!(heap, "{rows}; the file has {bytes}")
 }

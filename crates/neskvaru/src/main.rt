@@ -37,7 +37,13 @@ pub fn stop(rt: &LibcRuntime, problem: Problem) -> Result<Outcome, AnyError> {
 
 // Does what the words after the program's own name ask.
 fn run(rt: &LibcRuntime) -> Result<Outcome, AnyError> {
-    let words = words_of(rt)?;
+    let words = match words_of(rt) {
+        Ok(words) => words,
+        Err(error) => {
+            let reason = error.to_string(rt.alloc())?;
+            return stop(rt, Problem::BadWords(reason.as_str()));
+        }
+    };
     match words.as_slice() {
         [] | [_] => {
             rt.print(HELP)?;

@@ -8,6 +8,7 @@ use cli::rules::RuleFault;
 use cli::rules::rule_of;
 use rows::either::EitherRule;
 use rows::newline::NewlineRule;
+use rows::refusal::Refusal;
 use rows::rule::RowRule;
 use rows::sample::SampleRule;
 use rows::width::FixedRule;
@@ -42,7 +43,7 @@ fn list_by<R: RowRule + Drop>(
             write_listing(rt, listing)?;
             Ok(Outcome::Done)
         }
-        Err(_) => stop(rt, Problem::TooLong(name)),
+        Err(refusal) => stop(rt, Problem::Refused(refusal, name)),
     }
 }
 
@@ -51,11 +52,11 @@ pub fn list_rows(rt: &LibcRuntime, words: &str, name: &str) -> Result<Outcome, A
     let rule = match rule_of(words) {
         Ok(rule) => rule,
         Err(RuleFault::Unreadable) => return stop(rt, Problem::NoRule(words)),
-        Err(RuleFault::Refused(_)) => return stop(rt, Problem::RuleRange(words)),
+        Err(RuleFault::Refused(refusal)) => return stop(rt, Problem::Refused(refusal, words)),
     };
     let bytes = match read_file(rt, name) {
         Ok(Some(bytes)) => bytes,
-        Ok(None) => return stop(rt, Problem::TooLong(name)),
+        Ok(None) => return stop(rt, Problem::Refused(Refusal::FileTooLong, name)),
         Err(error) => {
             let reason = error.to_string(rt.alloc())?;
             return stop(rt, Problem::Unreadable(name, reason.as_str()));

@@ -43,6 +43,10 @@ each-take P zero rs h = tt
 each-take P (suc n) [] h = tt
 each-take P (suc n) (r ∷ rs) h = (h .0, each-take P n rs (h .1))
 
+pub each-map : (P Q : RowAt → Type 0) → ((r : RowAt) → P r → Q r) → (rs : List RowAt) → Each P rs → Each Q rs
+each-map P Q f [] h = tt
+each-map P Q f (r ∷ rs) h = (f r (h .0), each-map P Q f rs (h .1))
+
 -- a slice of the file, and the file from a place on, are parts of it
 pub slice-part : (file : List ℕ) (p n : ℕ) → p + n ≤ length file → PartOf file p (take n (drop p file))
 slice-part file p n h =

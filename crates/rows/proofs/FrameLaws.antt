@@ -8,17 +8,13 @@ use native.Mathlib.Omega.{arith}
 use lib.Dec.{leb}
 use lib.ListN.{length, take, drop, set}
 use borrow.Author.Tests.{le-leb, lt-leb}
-use Rattle.std.proofs.shelf.Tests.{and-from, and-left, and-right}
+use Rattle.std.proofs.shelf.Tests.{and-from, and-right}
 use Rattle.std.proofs.shelf.Lists.{take-append-drop, length-take-le, take-all, length-append, append-assoc, set-split}
 use Rattle.std.specs.declared.result.Result.the-variants.{Ok, Err}
 use Rattle.rows.specs.declared.refusal.Refusal.the-variants.{BufferTooShort}
 use Rattle.rows.specs.Frames.{Written, laid, written-if, framed}
 
 module _ (frame : List ℕ → List ℕ) (n : ℕ) (buffer : List ℕ) where
-  -- the row does not lie in the buffer
-  pub no-row : length buffer < n → framed frame n buffer ≡ (Err BufferTooShort, buffer)
-  no-row h = ap (λ t. written-if t (frame (take n buffer)) buffer) (and-left (leb n (length buffer)) _ (lt-leb n (length buffer) h))
-
   -- the frame does not fit
   pub no-room : length buffer < length (frame (take n buffer)) → framed frame n buffer ≡ (Err BufferTooShort, buffer)
   no-room h = ap (λ t. written-if t (frame (take n buffer)) buffer) (and-right (leb n (length buffer)) _ (lt-leb (length (frame (take n buffer))) (length buffer) h))

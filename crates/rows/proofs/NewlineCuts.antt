@@ -14,7 +14,7 @@ use Rattle.rows.specs.Rules.{Meaning, Lawful, Exchange-leaves-the-rest, joined
 use Rattle.rows.specs.Newlines.{put, lines, lacks, some, newline-frame, newline-carries, newline-meaning}
 use Rattle.rows.specs.declared.piece.Mark.{Mark}
 use Rattle.rows.specs.declared.piece.Mark.the-variants.{Ended, Unended}
-use Rattle.rows.proofs.CutLaws.{cons-not-nil, rest-part}
+use Rattle.rows.proofs.CutLaws.{cons-not-nil, each-map, rest-part}
 
 -- the frames are the bytes
 put-frame : (b : ℕ) (bytes : List ℕ) (m : Mark) (more : List ℕ) → newline-frame (b ∷ bytes) m ++ more ≡ b ∷ (newline-frame bytes m ++ more)
@@ -64,27 +64,44 @@ lines-starts p (b ∷ bs) = put-starts (eqb b 10) p b (lines (p + 1) bs)
 abbrev Part : List ℕ → RowAt → Type 0
 Part file r = PartOf file (r .start) (r .bytes)
 
-put-parts : (t : Bool) (file : List ℕ) (p b : ℕ) (rs : List RowAt) → p < length file → drop p file ≡ b ∷ drop (p + 1) file → StartsAt (p + 1) rs → Each (Part file) rs → Each (Part file) (put t p b rs)
-put-parts true file p b rs h e s k = ((omega arith, refl), k)
-put-parts false file p b [] h e s k = ((omega arith, rw e refl), tt)
-put-parts false file p b (r ∷ rs) h e s k =
-    let f : p + suc (length (r .bytes)) ≤ length file = omega (arith, k .0 .0, s) in
-    let g : r .bytes ≡ take (length (r .bytes)) (drop (p + 1) file) = k .0 .1 ∙ ap (λ q. take (length (r .bytes)) (drop q file)) s in
-    let i : b ∷ r .bytes ≡ take (suc (length (r .bytes))) (drop p file) = ap (λ x. b ∷ x) g ∙ ap (take (suc (length (r .bytes)))) (sym e) in
-    ((f, i), k .1)
+part-more : (file : List ℕ) (p q b : ℕ) (x : List ℕ) → drop p file ≡ b ∷ drop (p + 1) file → q ≡ p + 1 → PartOf file q x → PartOf file p (b ∷ x)
+part-more file p q b x e s k =
+    let f : p + suc (length x) ≤ length file = omega (arith, k .0) in
+    let g : x ≡ take (length x) (drop (p + 1) file) = k .1 ∙ ap (λ i. take (length x) (drop i file)) s in
+    (f, ap (λ y. b ∷ y) g ∙ ap (take (suc (length x))) (sym e))
 
-lines-parts : (pre bs : List ℕ) → Each (Part (pre ++ bs)) (lines (length pre) bs)
+part-one : (file : List ℕ) (p b : ℕ) → p < length file → drop p file ≡ b ∷ drop (p + 1) file → PartOf file p (b ∷ [])
+part-one file p b h e = (omega arith, rw e refl)
+
+-- a row is a part of the file, and so is its frame
+abbrev Framed-part : List ℕ → RowAt → Type 0
+Framed-part file r = Part file r × PartOf file (r .start) (newline-frame (r .bytes) (r .mark))
+
+frame-more : (b : ℕ) (bytes : List ℕ) (m : Mark) → newline-frame (b ∷ bytes) m ≡ b ∷ newline-frame bytes m
+frame-more b bytes Ended = refl
+frame-more b bytes Unended = refl
+
+put-parts : (t : Bool) (file : List ℕ) (p b : ℕ) (rs : List RowAt) → eqb b 10 ≡ t → p < length file → drop p file ≡ b ∷ drop (p + 1) file → StartsAt (p + 1) rs → Each (Framed-part file) rs → Each (Framed-part file) (put t p b rs)
+put-parts true file p b rs t h e s k = (((omega arith, refl), subst (λ x. PartOf file p (x ∷ [])) (eqb-true b 10 t) (part-one file p b h e)), k)
+put-parts false file p b [] t h e s k = ((part-one file p b h e, part-one file p b h e), tt)
+put-parts false file p b (r ∷ rs) t h e s k =
+    ((part-more file p (r .start) b (r .bytes) e s (k .0 .0), subst (PartOf file p) (sym (frame-more b (r .bytes) (r .mark))) (part-more file p (r .start) b (newline-frame (r .bytes) (r .mark)) e s (k .0 .1))), k .1)
+
+lines-parts : (pre bs : List ℕ) → Each (Framed-part (pre ++ bs)) (lines (length pre) bs)
 lines-parts pre [] = tt
 lines-parts pre (b ∷ bs) =
     let a : (pre ++ (b ∷ [])) ++ bs ≡ pre ++ (b ∷ bs) = append-assoc pre (b ∷ []) bs in
     let l : length (pre ++ (b ∷ [])) ≡ length pre + 1 = length-append pre (b ∷ []) in
     let d : drop (length pre) (pre ++ (b ∷ bs)) ≡ b ∷ bs = drop-at pre (b ∷ bs) (length pre) refl in
     let d′ : drop (length pre + 1) (pre ++ (b ∷ bs)) ≡ bs = ap (drop (length pre + 1)) (sym a) ∙ drop-at (pre ++ (b ∷ [])) bs (length pre + 1) l in
-    let i : Each (Part (pre ++ (b ∷ bs))) (lines (length pre + 1) bs) = rw (← a, ← l) (lines-parts (pre ++ (b ∷ [])) bs) in
-    put-parts (eqb b 10) (pre ++ (b ∷ bs)) (length pre) b (lines (length pre + 1) bs) (simp length-append (omega arith)) (d ∙ ap (λ x. b ∷ x) (sym d′)) (lines-starts (length pre + 1) bs) i
+    let i : Each (Framed-part (pre ++ (b ∷ bs))) (lines (length pre + 1) bs) = rw (← a, ← l) (lines-parts (pre ++ (b ∷ [])) bs) in
+    put-parts (eqb b 10) (pre ++ (b ∷ bs)) (length pre) b (lines (length pre + 1) bs) refl (simp length-append (omega arith)) (d ∙ ap (λ x. b ∷ x) (sym d′)) (lines-starts (length pre + 1) bs) i
+
+pub frames-parts : (file : List ℕ) → Each (λ r. PartOf file (r .start) (newline-frame (r .bytes) (r .mark))) (lines 0 file)
+frames-parts file = each-map (Framed-part file) _ (λ r h. h .1) (lines 0 file) (lines-parts [] file)
 
 -- rows that stand in a file: each carried, and all but the last ended
-abbrev Good : List Text → Type 0
+abbrev pub Good : List Text → Type 0
 Good [] = Unit {0}
 Good (t ∷ []) = newline-carries (t .bytes) (t .mark) ≡ true
 Good (t ∷ u ∷ ts) = (newline-carries (t .bytes) (t .mark) ≡ true) × (t .mark ≡ Ended) × Good (u ∷ ts)
@@ -163,7 +180,7 @@ newline-exchange file before after old new other e _ h oe _ =
 
 pub newline-lawful : Lawful newline-meaning
 newline-lawful = record {
-  parts = λ file _. (lines-parts [] file, subst (PartOf file (length file)) (drop-all (length file) file (omega arith)) (rest-part file (length file) (omega arith)));
+  parts = λ file _. (each-map (Framed-part file) (Part file) (λ r h. h .0) (lines 0 file) (lines-parts [] file), subst (PartOf file (length file)) (drop-all (length file) file (omega arith)) (rest-part file (length file) (omega arith)));
   no-empty = λ file _. lines-not-empty 0 file;
   covers = λ file _. append-nil (frames newline-frame (texts (lines 0 file))) ∙ lines-cover 0 file;
   exchange = λ file _. newline-exchange file;

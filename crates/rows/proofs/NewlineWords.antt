@@ -1,60 +1,61 @@
 -- The rows of the newline rule, in its own words.
 use mathlib.Core.Path.{_≡_, refl, sym, ap, _∙_}
 use mathlib.Core.Bool.{Bool, true, false, not, cond}
-use mathlib.Core.List.{List, [], _∷_}
-use Prim.Native.Nat.{ℕ, zero, suc, _+_, _≤_, _<_}
+use mathlib.Core.List.{List, [], _∷_, _++_}
+use Prim.Native.Nat.{ℕ, zero, suc, _+_, _-_, _≤_, _<_}
 use native.Mathlib.Omega.{arith}
 use lib.Dec.{eqb}
 use lib.ListN.{length, getD}
 use borrow.Author.Tests.{eqb-false}
-use Rattle.rows.specs.Cuts.{RowAt, Each}
-use Rattle.rows.specs.Newlines.{put, lines}
+use Rattle.std.proofs.shelf.Lists.{length-append}
+use Rattle.std.proofs.shelf.Tests.{and-parts, not-true}
+use Rattle.rows.specs.Cuts.{RowAt, texts, Each}
+use Rattle.rows.specs.Newlines.{put, lines, lacks, some, newline-frame, newline-carries}
 use Rattle.rows.specs.Words.{newlines, end-after, ends, unended, last-unended, last-not-0A, Ended-but-last, Newline-rows}
+use Rattle.rows.specs.declared.piece.Mark.{Mark}
 use Rattle.rows.specs.declared.piece.Mark.the-variants.{Ended, Unended}
 use Rattle.rows.proofs.CutLaws.{cons-not-nil}
-use Rattle.rows.proofs.NewlineCuts.{StartsAt, lines-starts}
+use Rattle.rows.proofs.NewlineCuts.{StartsAt, lines-starts, frames-parts, Good, lines-good}
+
+ends-more : (m : Mark) (p q b : ℕ) (bytes ps : List ℕ) → q ≡ p + 1 → end-after m (p + (length (newline-frame (b ∷ bytes) m) - 1)) ps ≡ end-after m (q + (length (newline-frame bytes m) - 1)) ps
+ends-more Ended p q b bytes ps h =
+    let l : length (bytes ++ (10 ∷ [])) ≡ length bytes + 1 = length-append bytes (10 ∷ []) in
+    let e : p + (suc (length (bytes ++ (10 ∷ []))) - 1) ≡ q + (length (bytes ++ (10 ∷ [])) - 1) = omega arith in
+    ap (λ k. k ∷ ps) e
+ends-more Unended p q b bytes ps h = refl
 
 put-ends : (t : Bool) (p b : ℕ) (rs : List RowAt) → StartsAt (p + 1) rs → ends (put t p b rs) ≡ cond t (p ∷ ends rs) (ends rs)
 put-ends true p b rs h = let e : p + 0 ≡ p = omega arith in ap (λ k. k ∷ ends rs) e
 put-ends false p b [] h = refl
-put-ends false p b (r ∷ rs) h =
-    let e : p + suc (length (r .bytes)) ≡ r .start + length (r .bytes) = omega arith in
-    ap (λ k. end-after (r .mark) k (ends rs)) e
+put-ends false p b (r ∷ rs) h = ends-more (r .mark) p (r .start) b (r .bytes) (ends rs) h
 
 lines-ends : (p : ℕ) (bs : List ℕ) → ends (lines p bs) ≡ newlines p bs
 lines-ends p [] = refl
 lines-ends p (b ∷ bs) =
     put-ends (eqb b 10) p b (lines (p + 1) bs) (lines-starts (p + 1) bs) ∙ ap (λ x. cond (eqb b 10) (p ∷ x) x) (lines-ends (p + 1) bs)
 
+-- rows that are carried, all but the last ended
 abbrev Clean : List ℕ → Type 0
 Clean bytes = (i : ℕ) → i < length bytes → getD bytes i 0 ≡ 10 → ⊥
 
-clean-none : Clean []
-clean-none i h = absurd (omega arith)
+lacks-clean : (bytes : List ℕ) → lacks bytes ≡ true → Clean bytes
+lacks-clean [] h i l e = absurd (omega arith)
+lacks-clean (b ∷ bytes) h zero l e = eqb-false b 10 (not-true (eqb b 10) (and-parts (not (eqb b 10)) (lacks bytes) h .0)) e
+lacks-clean (b ∷ bytes) h (suc i) l e = lacks-clean bytes (and-parts (not (eqb b 10)) (lacks bytes) h .1) i (omega arith) e
 
-clean-more : (b : ℕ) (bytes : List ℕ) → (b ≡ 10 → ⊥) → Clean bytes → Clean (b ∷ bytes)
-clean-more b bytes n k zero h e = n e
-clean-more b bytes n k (suc i) h e = k i (omega arith) e
+carried-clean : (bytes : List ℕ) (m : Mark) → newline-carries bytes m ≡ true → Clean bytes
+carried-clean bytes Ended h = lacks-clean bytes h
+carried-clean bytes Unended h = lacks-clean bytes (and-parts (lacks bytes) (some bytes) h .0)
 
-put-clean : (t : Bool) (p b : ℕ) (rs : List RowAt) → eqb b 10 ≡ t → Each (λ r. Clean (r .bytes)) rs → Each (λ r. Clean (r .bytes)) (put t p b rs)
-put-clean true p b rs e h = (clean-none, h)
-put-clean false p b [] e h = (clean-more b [] (eqb-false b 10 e) clean-none, tt)
-put-clean false p b (r ∷ rs) e h = (clean-more b (r .bytes) (eqb-false b 10 e) (h .0), h .1)
+good-clean : (rs : List RowAt) → Good (texts rs) → Each (λ r. Clean (r .bytes)) rs
+good-clean [] h = tt
+good-clean (r ∷ []) h = (carried-clean (r .bytes) (r .mark) h, tt)
+good-clean (r ∷ q ∷ rs) h = (carried-clean (r .bytes) (r .mark) (h .0), good-clean (q ∷ rs) (h .2))
 
-lines-clean : (p : ℕ) (bs : List ℕ) → Each (λ r. Clean (r .bytes)) (lines p bs)
-lines-clean p [] = tt
-lines-clean p (b ∷ bs) = put-clean (eqb b 10) p b (lines (p + 1) bs) refl (lines-clean (p + 1) bs)
-
-put-ended : (t : Bool) (p b : ℕ) (rs : List RowAt) → Ended-but-last rs → Ended-but-last (put t p b rs)
-put-ended true p b [] h = tt
-put-ended true p b (r ∷ rs) h = (refl, h)
-put-ended false p b [] h = tt
-put-ended false p b (r ∷ []) h = tt
-put-ended false p b (r ∷ q ∷ rs) h = h
-
-lines-ended : (p : ℕ) (bs : List ℕ) → Ended-but-last (lines p bs)
-lines-ended p [] = tt
-lines-ended p (b ∷ bs) = put-ended (eqb b 10) p b (lines (p + 1) bs) (lines-ended (p + 1) bs)
+good-ended : (rs : List RowAt) → Good (texts rs) → Ended-but-last rs
+good-ended [] h = tt
+good-ended (r ∷ []) h = tt
+good-ended (r ∷ q ∷ rs) h = (h .1, good-ended (q ∷ rs) (h .2))
 
 put-some : (t : Bool) (p b : ℕ) (rs : List RowAt) → put t p b rs ≡ [] → ⊥
 put-some true p b rs = cons-not-nil _ _
@@ -79,9 +80,10 @@ lines-last p (b ∷ a ∷ bs) =
 
 pub newline-words : (file : List ℕ) → Newline-rows file
 newline-words file = record {
+  frames-there = frames-parts file;
   ends-are-newlines = lines-ends 0 file;
-  none-inside = lines-clean 0 file;
-  ended-but-last = lines-ended 0 file;
+  none-inside = good-clean (lines 0 file) (lines-good 0 file);
+  ended-but-last = good-ended (lines 0 file) (lines-good 0 file);
   closing = lines-last 0 file;
   no-tail = refl;
 }

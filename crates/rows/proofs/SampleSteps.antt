@@ -1,9 +1,7 @@
 -- What a sample hands out, and what is then to come.
 use mathlib.Core.Path.{_≡_, refl, sym, ap, subst, _∙_}
-use mathlib.Core.HLevel.{×-prop}
 use mathlib.Core.List.{List, [], _∷_, _++_}
 use Prim.Native.Nat.{ℕ, zero, suc, _+_, _-_, min, _≤_, _<_}
-use native.Mathlib.Bridge.{le-prop}
 use native.Mathlib.Omega.{arith}
 use lib.ListN.{length, take, drop}
 use Rattle.std.proofs.shelf.Lists.{length-append}
@@ -12,7 +10,6 @@ use Rattle.rows.specs.Frames.{measured}
 use Rattle.rows.specs.Told.{Told, tail, piece-of, rest, behind, rest-at}
 use Rattle.rows.specs.Samples.{frames-end, sample-from}
 use Rattle.rows.specs.declared.piece.Mark.{Mark}
-use Rattle.rows.specs.declared.sample.Sample.{Sample}
 use Rattle.rows.proofs.CutLaws.{tail-told}
 
 pub take-none : (n : ℕ) (rs : List RowAt) → n ≡ 0 → take n rs ≡ []
@@ -45,8 +42,3 @@ module _ (frame : List ℕ → Mark → List ℕ) (n p : ℕ) (file : List ℕ) 
         let l : length (frame (r .bytes) (r .mark) ++ more) ≡ length (frame (r .bytes) (r .mark)) + length more = length-append (frame (r .bytes) (r .mark)) more in
         let k : min (q + length more) (length file) ≡ min (p + length (frame (r .bytes) (r .mark) ++ more)) (length file) = omega arith in
         ap (λ i. record { start = i; bytes = drop i file }) (k ∙ ap (λ rs. min (p + length (frames frame (texts rs))) (length file)) (sym row-ahead))
-
--- two samples that differ only in the proof of their range
-pub same-sample : {R : Type 0} (n l e : ℕ) (a b : R) (i j : (n ≤ 16777216) × (l ≤ n)) → a ≡ b → _≡_ {A = Sample R} (record { limit = n; left = l; end = e; below = a; in_range = i }) (record { limit = n; left = l; end = e; below = b; in_range = j })
-same-sample n l e a b i j is =
-    ap (λ x. record { limit = n; left = l; end = e; below = x; in_range = i }) is ∙ ap (λ k. record { limit = n; left = l; end = e; below = b; in_range = k }) (×-prop le-prop le-prop i j)

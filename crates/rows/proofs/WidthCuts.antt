@@ -14,7 +14,7 @@ use Rattle.rows.specs.Rules.{Meaning, Lawful, Exchange-leaves-the-rest, swappe
 use Rattle.rows.specs.Widths.{slabs, fixed-count, fixed-from, fixed-at, fixed-frame, fixed-carries, fixed-meaning}
 use Rattle.rows.specs.declared.piece.Mark.{Mark}
 use Rattle.rows.specs.declared.piece.Mark.the-variants.{Ended, Unended}
-use Rattle.rows.specs.Words.{Fixed-rows}
+use Rattle.rows.specs.Words.{Stacked, Fixed-rows}
 use Rattle.rows.proofs.CutLaws.{slice-part, rest-part}
 
 pub drop-suc : (n w : ℕ) (bs : List ℕ) → drop (suc n * w) bs ≡ drop (n * w) (drop w bs)
@@ -139,10 +139,15 @@ wide-each : (w : ℕ) (rs : List RowAt) → Wide w (texts rs) → Each (λ r. (l
 wide-each w [] k = tt
 wide-each w (r ∷ rs) k = ((k .0, k .1), wide-each w rs (k .2))
 
+slabs-stacked : (n w p : ℕ) (bs : List ℕ) → Stacked w p (slabs n w p bs)
+slabs-stacked zero w p bs = tt
+slabs-stacked (suc n) w p bs = (refl, slabs-stacked n w (p + w) (drop w bs))
+
 pub fixed-words : (w : ℕ) → 1 ≤ w → (file : List ℕ) → Fixed-rows w file
 fixed-words w some file =
     let here = from-start w some file in
     record {
       wide = subst (λ c. Each (λ r. (length (r .bytes) ≡ w) × (r .mark ≡ Ended)) (c .rows)) here (wide-each w (fixed-from w 0 file .rows) (whole-wide w some file));
+      stacked = subst (λ c. Stacked w 0 (c .rows)) here (slabs-stacked (fixed-count w 0 file) w 0 file);
       short-tail = subst (λ c. length (c .tail .bytes) < w) here (little-left w some file);
     }

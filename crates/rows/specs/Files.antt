@@ -1,5 +1,4 @@
 -- Setting a rule on a file that is within the limit: the answer, and what is then known.
-use mathlib.Core.Path.{_≡_}
 use mathlib.Core.Bool.{Bool, true, false}
 use mathlib.Core.List.{List}
 use Prim.Native.Nat.{ℕ, _≤_}

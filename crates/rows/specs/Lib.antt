@@ -3,6 +3,7 @@ pub mod Cuts
 pub mod Rules
 pub mod Told
 pub mod Finds
+pub mod Steps
 pub mod Frames
 pub mod Refusals
 pub mod Newlines

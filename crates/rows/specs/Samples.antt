@@ -1,6 +1,6 @@
 -- The first rows of a rule below, and a tail from where their frames end.
 use mathlib.Core.Path.{_≡_}
-use mathlib.Core.List.{List}
+use mathlib.Core.List.{List, []}
 use Prim.Native.Nat.{ℕ, _+_, min}
 use lib.ListN.{length, take, drop}
 use Rattle.rows.specs.Cuts.{Cut, texts, frames}
@@ -30,8 +30,9 @@ sampled n m = record { cut = λ file. sample-from (m .frame) n 0 file (m .cut fi
 abbrev pub sample-ahead : {R : Type 0} → (R → Meaning) → (R → List ℕ → Cut) → ℕ → ℕ → R → List ℕ → Cut
 sample-ahead means ahead left end below file = sample-from (means below .frame) left end file (ahead below file)
 
--- A row is handed on from below, or none: what was ahead told it, or else the tail at a place.
-pub record Handed-on (file : List ℕ) (before after : Cut) (handed : Option Piece) (place : ℕ) : Type 0 where
-  pub tells : Cases handed (rest-at place file ≡ piece-of before) (λ p. told p ≡ piece-of before)
+-- A row is handed on from below, or none: what was ahead tells it, or else the tail at a place; where no row was ahead, nothing changes.
+pub record Handed-on (file : List ℕ) (handed : Option Piece) (place : ℕ) (before after : List ℕ → Cut) : Type 0 where
+  pub tells : Cases handed (rest-at place file ≡ piece-of (before file)) (λ p. told p ≡ piece-of (before file))
   pub part : Cases handed (Unit {0}) (λ p. Of file (told p))
-  pub leaves : after ≡ behind before
+  pub leaves : after file ≡ behind (before file)
+  pub stays : before file .rows ≡ [] → (other : List ℕ) → after other ≡ before other

@@ -2,12 +2,12 @@
 use mathlib.Core.Path.{_≡_}
 use mathlib.Core.Bool.{Bool, true, false, not, cond}
 use mathlib.Core.List.{List, [], _∷_}
-use Prim.Native.Nat.{ℕ, _+_, _≤_, _<_}
+use Prim.Native.Nat.{ℕ, _+_, _-_, _≤_, _<_}
 use lib.Dec.{eqb}
 use lib.ListN.{length, take, drop, getD}
-use Rattle.rows.specs.Cuts.{RowAt, TailAt, Cut, texts, frames, Each, File}
+use Rattle.rows.specs.Cuts.{RowAt, Cut, texts, frames, Each, PartOf}
 use Rattle.rows.specs.Rules.{Meaning}
-use Rattle.rows.specs.Newlines.{newline-meaning}
+use Rattle.rows.specs.Newlines.{newline-frame, newline-meaning}
 use Rattle.rows.specs.Widths.{fixed-meaning}
 use Rattle.rows.specs.Samples.{sampled}
 use Rattle.rows.specs.declared.piece.Mark.{Mark}
@@ -18,14 +18,18 @@ abbrev pub newlines : ℕ → List ℕ → List ℕ
 newlines p [] = []
 newlines p (b ∷ bs) = cond (eqb b 10) (p ∷ newlines (p + 1) bs) (newlines (p + 1) bs)
 
--- the places where ended rows end: the place behind each, in order
+-- the place of the last byte of a row's frame
+abbrev pub last-byte : RowAt → ℕ
+last-byte r = r .start + (length (newline-frame (r .bytes) (r .mark)) - 1)
+
+-- the places of the last bytes of the frames of ended rows, in order
 abbrev pub end-after : Mark → ℕ → List ℕ → List ℕ
 end-after Ended p ps = p ∷ ps
 end-after Unended p ps = ps
 
 abbrev pub ends : List RowAt → List ℕ
 ends [] = []
-ends (r ∷ rs) = end-after (r .mark) (r .start + length (r .bytes)) (ends rs)
+ends (r ∷ rs) = end-after (r .mark) (last-byte r) (ends rs)
 
 abbrev pub unended : Mark → Bool
 unended Ended = false
@@ -49,18 +53,26 @@ Ended-but-last [] = Unit {0}
 Ended-but-last (r ∷ []) = Unit {0}
 Ended-but-last (r ∷ s ∷ rs) = (r .mark ≡ Ended) × Ended-but-last (s ∷ rs)
 
--- Newline: every 0A of the file ends exactly one ended row, in order, and each ended row ends there; no row holds 0A;
--- all rows but the last are ended, and the last is unended exactly when the file has a last byte other than 0A; the tail is empty.
+-- Newline: each row's frame stands in the file where the row starts; the places of 0A in the file are the last bytes of the frames of ended rows,
+-- in order, so that each is the last byte of exactly one; no row holds 0A; all rows but the last are ended, and the last is unended
+-- exactly when the file has a last byte other than 0A; the tail is empty.
 pub record Newline-rows (file : List ℕ) : Type 0 where
+  pub frames-there : Each (λ r. PartOf file (r .start) (newline-frame (r .bytes) (r .mark))) (newline-meaning .cut file .rows)
   pub ends-are-newlines : ends (newline-meaning .cut file .rows) ≡ newlines 0 file
   pub none-inside : Each (λ r. (i : ℕ) → i < length (r .bytes) → getD (r .bytes) i 0 ≡ 10 → ⊥) (newline-meaning .cut file .rows)
   pub ended-but-last : Ended-but-last (newline-meaning .cut file .rows)
   pub closing : last-unended (newline-meaning .cut file .rows) ≡ last-not-0A file
   pub no-tail : newline-meaning .cut file .tail .bytes ≡ []
 
--- Fixed width: every row has w bytes and is ended, and the tail has fewer than w.
+-- rows that start one width after another
+abbrev pub Stacked : ℕ → ℕ → List RowAt → Type 0
+Stacked w p [] = Unit {0}
+Stacked w p (r ∷ rs) = (r .start ≡ p) × Stacked w (p + w) rs
+
+-- Fixed width: every row has w bytes and is ended, they start one width after another from 0 on, and the tail has fewer than w bytes.
 pub record Fixed-rows (w : ℕ) (file : List ℕ) : Type 0 where
   pub wide : Each (λ r. (length (r .bytes) ≡ w) × (r .mark ≡ Ended)) (fixed-meaning w .cut file .rows)
+  pub stacked : Stacked w 0 (fixed-meaning w .cut file .rows)
   pub short-tail : length (fixed-meaning w .cut file .tail .bytes) < w
 
 -- Sample: the first n rows below; the tail begins where their frames end, and is the tail below where there are no more rows.

@@ -3,9 +3,9 @@ ghost use mathlib.Core.Path.{_≡_};
 ghost use mathlib.Core.List.{List};
 ghost use Prim.Native.Nat.{ℕ, _≤_, _<_};
 ghost use lib.ListN.{length, getD};
-ghost use Rattle.std.specs.Options.{Cases};
-ghost use Rattle.rows.specs.Finds.{Found-at};
-ghost use Rattle.rows.specs.Told.{Tells-tail, rest-at};
+ghost use Rattle.rows.specs.Finds.{Finds};
+ghost use Rattle.rows.specs.Steps.{Set-on, Asked};
+ghost use Rattle.rows.specs.Told.{told};
 ghost use Rattle.rows.specs.Newlines.{newline-from, newline-meaning, lacks};
 ghost use Rattle.rows.specs.Words.{Newline-rows};
 use crate::frames::row_alone;
@@ -26,7 +26,7 @@ pub struct Newline {
 }
 
 impl Newline {
-    // The rule before its first row; of every file it cuts the rows that the clause `words` tells.
+    // The rule before its first row. Of every file it cuts the rows that the clause `words` tells.
     pub fn new() -> Newline
         ensures value { λ r. ⌜ r .at ≡ 0 ⌝ }
         ensures words { λ _. ⌜ ((file : List ℕ) → Newline-rows file) ⌝ }
@@ -59,7 +59,7 @@ fn lacks_newline(row: &[u8]) -> bool
 
 // The row at a place, or none where the file ends before it.
 fn row_at(file: &[u8], start: usize) -> Option<Found>
-    ensures { λ r. ⌜ Cases r (Tells-tail (newline-from start (now (file .entry))) (rest-at start (now (file .entry)))) (λ f. Found-at (now (file .entry)) (newline-from start (now (file .entry))) f newline-from) ⌝ }
+    ensures { λ r. ⌜ Finds newline-from start (now (file .entry)) r ⌝ }
 {
     if start >= file.len() {
         return None;
@@ -86,11 +86,15 @@ pub impl RowRule for Newline as NewlineRule {
 
     ghost ahead = { λ s. newline-from (s .at) };
 
-    fn set(&mut self, _file: &[u8]) {
+    fn set(&mut self, _file: &[u8])
+        ensures { λ _. ⌜ Set-on (now («_file» .entry)) newline-meaning newline-meaning (newline-from (now (self .exit) .at)) ⌝ }
+    {
         self.at = 0;
     }
 
-    fn next<'f>(&mut self, file: &'f [u8]) -> Piece<'f> {
+    fn next<'f>(&mut self, file: &'f [u8]) -> Piece<'f>
+        ensures { λ r. ⌜ Asked (now (file .entry)) (told r) newline-meaning newline-meaning (newline-from (now (self .entry) .at)) (newline-from (now (self .exit) .at)) ⌝ }
+    {
         match row_at(file, self.at) {
             Some(found) => {
                 self.at = found.next;

@@ -1,12 +1,13 @@
 // A row rule: what it means, what it owes, and the calls on it.
 ghost use mathlib.Core.Path.{_≡_};
-ghost use mathlib.Core.List.{List, []};
+ghost use mathlib.Core.List.{List};
 ghost use Prim.Native.Nat.{ℕ};
 ghost use lib.ListN.{length};
 ghost use Rattle.rows.specs.Cuts.{Cut};
 ghost use Rattle.rows.specs.Frames.{measured, framed};
 ghost use Rattle.rows.specs.Rules.{Meaning, Lawful};
-ghost use Rattle.rows.specs.Told.{told, piece-of, behind, Of};
+ghost use Rattle.rows.specs.Steps.{Set-on, Asked};
+ghost use Rattle.rows.specs.Told.{told};
 use crate::piece::Mark;
 use crate::piece::Piece;
 use crate::refusal::Refusal;
@@ -22,16 +23,11 @@ pub trait RowRule {
 
     // Sets the rule on a file: all its rows are to come.
     fn set(&mut self, file: &[u8])
-        ensures all { λ _. ⌜ ahead (now (self .exit)) (now (file .entry)) ≡ means (now (self .entry)) .cut (now (file .entry)) ⌝ }
-        ensures kept { λ _. ⌜ means (now (self .exit)) ≡ means (now (self .entry)) ⌝ };
+        ensures { λ _. ⌜ Set-on (now (file .entry)) (means (now (self .entry))) (means (now (self .exit))) (ahead (now (self .exit))) ⌝ };
 
     // The next piece: the first row to come, which is then handed out, or else the tail, which changes nothing.
     fn next<'f>(&mut self, file: &'f [u8]) -> Piece<'f>
-        ensures tells { λ r. ⌜ told r ≡ piece-of (ahead (now (self .entry)) (now (file .entry))) ⌝ }
-        ensures part { λ r. ⌜ Of (now (file .entry)) (told r) ⌝ }
-        ensures leaves { λ _. ⌜ ahead (now (self .exit)) (now (file .entry)) ≡ behind (ahead (now (self .entry)) (now (file .entry))) ⌝ }
-        ensures stays { λ _. ⌜ (ahead (now (self .entry)) (now (file .entry)) .rows ≡ [] → now (self .exit) ≡ now (self .entry)) ⌝ }
-        ensures kept { λ _. ⌜ means (now (self .exit)) ≡ means (now (self .entry)) ⌝ };
+        ensures { λ r. ⌜ Asked (now (file .entry)) (told r) (means (now (self .entry))) (means (now (self .exit))) (ahead (now (self .entry))) (ahead (now (self .exit))) ⌝ };
 
     // Whether the rule carries a row under a mark.
     fn carries(&self, row: &[u8], mark: Mark) -> bool

@@ -1,13 +1,14 @@
 // The sample rule: the first so many rows of the rule below.
 ghost use mathlib.Core.Path.{_≡_};
-ghost use mathlib.Core.List.{List, []};
+ghost use mathlib.Core.List.{List};
 ghost use Prim.Native.Nat.{ℕ, _+_, _-_, _≤_, _<_};
 ghost use Rattle.rows.specs.Cuts.{File};
 ghost use Rattle.std.specs.Results.{Cases};
 ghost use Rattle.rows.specs.declared.refusal.Refusal.the-variants.{OutOfRange};
 ghost use Rattle.rows.specs.Samples.{sampled, sample-ahead, Handed-on};
 ghost use Rattle.rows.specs.Frames.{measured};
-ghost use lib.ListN.{take};
+ghost use Rattle.rows.specs.Steps.{Set-on, Asked};
+ghost use Rattle.rows.specs.Told.{told};
 ghost use Rattle.rows.specs.Words.{Sample-rows};
 use crate::piece::Mark;
 use crate::piece::Piece;
@@ -28,7 +29,7 @@ pub struct Sample<R> {
 }
 
 impl<R: RowRule + Drop> Sample<R> {
-    // The rule before its first row, or a refusal of the number; of every file it cuts the rows that the clause `words` tells.
+    // The sample, or a refusal of the number. Set on a file, it cuts the rows that the clause `words` tells.
     pub fn new(limit: usize, below: R) -> Result<Sample<R>, Refusal>
         ensures value { λ r. ⌜ Cases r (λ s. (s .limit ≡ limit) × (s .left ≡ limit) × (s .end ≡ 0) × (s .below ≡ below)) (λ e. (e ≡ OutOfRange) × (16777216 < limit)) ⌝ }
         ensures words { λ r. ⌜ Cases r (λ s. (file : List ℕ) → File file → Sample-rows (s .limit) (R·RowRule .means below) file) (λ _. Unit {0}) ⌝ }
@@ -61,8 +62,7 @@ impl<R> Sample<R> {
 impl<R: RowRule> Sample<R> {
     // The next row below, if one more is wanted and there is one.
     fn row_below<'f>(&mut self, file: &'f [u8]) -> Option<Piece<'f>>
-        ensures hands { λ r. ⌜ Handed-on (now (file .entry)) (sample-ahead (R·RowRule .means) (R·RowRule .ahead) (now (self .entry) .left) (now (self .entry) .end) (now (self .entry) .below) (now (file .entry))) (sample-ahead (R·RowRule .means) (R·RowRule .ahead) (now (self .exit) .left) (now (self .exit) .end) (now (self .exit) .below) (now (file .entry))) r (now (self .exit) .end) ⌝ }
-        ensures stays { λ _. ⌜ (take (now (self .entry) .left) (R·RowRule .ahead (now (self .entry) .below) (now (file .entry)) .rows) ≡ [] → now (self .exit) ≡ now (self .entry)) ⌝ }
+        ensures hands { λ r. ⌜ Handed-on (now (file .entry)) r (now (self .exit) .end) (sample-ahead (R·RowRule .means) (R·RowRule .ahead) (now (self .entry) .left) (now (self .entry) .end) (now (self .entry) .below)) (sample-ahead (R·RowRule .means) (R·RowRule .ahead) (now (self .exit) .left) (now (self .exit) .end) (now (self .exit) .below)) ⌝ }
         ensures kept { λ _. ⌜ (now (self .exit) .limit ≡ now (self .entry) .limit) × (R·RowRule .means (now (self .exit) .below) ≡ R·RowRule .means (now (self .entry) .below)) ⌝ }
     {
         if self.left == 0 {
@@ -84,13 +84,17 @@ pub impl<R: RowRule> RowRule for Sample<R> as SampleRule {
 
     ghost ahead = { λ s. sample-ahead (R·RowRule .means) (R·RowRule .ahead) (s .left) (s .end) (s .below) };
 
-    fn set(&mut self, file: &[u8]) {
+    fn set(&mut self, file: &[u8])
+        ensures { λ _. ⌜ Set-on (now (file .entry)) (sampled (now (self .entry) .limit) (R·RowRule .means (now (self .entry) .below))) (sampled (now (self .exit) .limit) (R·RowRule .means (now (self .exit) .below))) (sample-ahead (R·RowRule .means) (R·RowRule .ahead) (now (self .exit) .left) (now (self .exit) .end) (now (self .exit) .below)) ⌝ }
+    {
         self.left = self.limit;
         self.end = 0;
         self.below.set(file);
     }
 
-    fn next<'f>(&mut self, file: &'f [u8]) -> Piece<'f> {
+    fn next<'f>(&mut self, file: &'f [u8]) -> Piece<'f>
+        ensures { λ r. ⌜ Asked (now (file .entry)) (told r) (sampled (now (self .entry) .limit) (R·RowRule .means (now (self .entry) .below))) (sampled (now (self .exit) .limit) (R·RowRule .means (now (self .exit) .below))) (sample-ahead (R·RowRule .means) (R·RowRule .ahead) (now (self .entry) .left) (now (self .entry) .end) (now (self .entry) .below)) (sample-ahead (R·RowRule .means) (R·RowRule .ahead) (now (self .exit) .left) (now (self .exit) .end) (now (self .exit) .below)) ⌝ }
+    {
         match self.row_below(file) {
             Some(piece) => piece,
             None => Piece::tail_from(file, self.end),

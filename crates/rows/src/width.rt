@@ -2,9 +2,9 @@
 ghost use mathlib.Core.Path.{_≡_};
 ghost use mathlib.Core.List.{List};
 ghost use Prim.Native.Nat.{ℕ, _≤_};
-ghost use Rattle.std.specs.Options as Options;
-ghost use Rattle.rows.specs.Finds.{Found-at};
-ghost use Rattle.rows.specs.Told.{Tells-tail, rest-at};
+ghost use Rattle.rows.specs.Finds.{Finds};
+ghost use Rattle.rows.specs.Steps.{Set-on, Asked};
+ghost use Rattle.rows.specs.Told.{told};
 ghost use Rattle.std.specs.Results.{Cases};
 ghost use Rattle.rows.specs.declared.refusal.Refusal.the-variants.{OutOfRange};
 ghost use Rattle.rows.specs.Widths.{fixed-at, fixed-meaning};
@@ -28,7 +28,7 @@ pub struct FixedWidth {
 }
 
 impl FixedWidth {
-    // The rule before its first row, or a refusal of the width; of every file it cuts the rows that the clause `words` tells.
+    // The rule before its first row, or a refusal of the width. Of every file it cuts the rows that the clause `words` tells.
     pub fn new(width: usize) -> Result<FixedWidth, Refusal>
         ensures value { λ r. ⌜ Cases r (λ f. (f .width ≡ width) × (f .at ≡ 0)) (λ e. (e ≡ OutOfRange) × ((1 ≤ width) × (width ≤ 4096) → ⊥)) ⌝ }
         ensures words { λ r. ⌜ Cases r (λ f. (file : List ℕ) → Fixed-rows (f .width) file) (λ _. Unit {0}) ⌝ }
@@ -41,7 +41,7 @@ impl FixedWidth {
 
     // The row to come, or none where fewer bytes than the width are left.
     fn row_at(&self, file: &[u8]) -> Option<Found>
-        ensures { λ r. ⌜ Options.Cases r (Tells-tail (fixed-at (now (self .entry) .width) (now (self .entry) .at) (now (file .entry))) (rest-at (now (self .entry) .at) (now (file .entry)))) (λ f. Found-at (now (file .entry)) (fixed-at (now (self .entry) .width) (now (self .entry) .at) (now (file .entry))) f (fixed-at (now (self .entry) .width))) ⌝ }
+        ensures { λ r. ⌜ Finds (fixed-at (now (self .entry) .width)) (now (self .entry) .at) (now (file .entry)) r ⌝ }
     {
         let start = self.at.min(file.len());
         if file.len() - start < self.width {
@@ -62,11 +62,15 @@ pub impl RowRule for FixedWidth as FixedRule {
 
     ghost ahead = { λ s. fixed-at (s .width) (s .at) };
 
-    fn set(&mut self, _file: &[u8]) {
+    fn set(&mut self, _file: &[u8])
+        ensures { λ _. ⌜ Set-on (now («_file» .entry)) (fixed-meaning (now (self .entry) .width)) (fixed-meaning (now (self .exit) .width)) (fixed-at (now (self .exit) .width) (now (self .exit) .at)) ⌝ }
+    {
         self.at = 0;
     }
 
-    fn next<'f>(&mut self, file: &'f [u8]) -> Piece<'f> {
+    fn next<'f>(&mut self, file: &'f [u8]) -> Piece<'f>
+        ensures { λ r. ⌜ Asked (now (file .entry)) (told r) (fixed-meaning (now (self .entry) .width)) (fixed-meaning (now (self .exit) .width)) (fixed-at (now (self .entry) .width) (now (self .entry) .at)) (fixed-at (now (self .exit) .width) (now (self .exit) .at)) ⌝ }
+    {
         match self.row_at(file) {
             Some(found) => {
                 self.at = found.next;

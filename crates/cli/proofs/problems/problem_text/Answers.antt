@@ -5,11 +5,13 @@ use Rattle.std.specs.Of.String.{string-bytes}
 use Rattle.std.specs.Vec.{made}
 use Rattle.cli.specs.Problems.{problem-line}
 use Rattle.cli.specs.declared.problems.Problem.{Problem}
-use Rattle.cli.specs.declared.problems.Problem.the-variants.{NoCommand, WrongWords, NoRule, RuleRange, Unreadable, TooLong}
 use Rattle.cli.proofs.problems.problem_text.Needs as need
 
+pub returns-in-BadWords : need.returns-in-BadWords
+returns-in-BadWords c = subst (λ (p : Problem). made (c .format .result) (λ s. string-bytes s ≡ problem-line p)) (sym (c .in-BadWords .is)) (search needs)
+
 pub returns-in-NoCommand : need.returns-in-NoCommand
-returns-in-NoCommand c = subst (λ (p : Problem). made (c .format .result) (λ s. string-bytes s ≡ problem-line p)) (sym (c .in-NoCommand .is)) (search needs)
+returns-in-NoCommand c = subst (λ (p : Problem). made (c .format-in-NoCommand .result) (λ s. string-bytes s ≡ problem-line p)) (sym (c .in-NoCommand .is)) (search needs)
 
 pub returns-in-WrongWords : need.returns-in-WrongWords
 returns-in-WrongWords c = subst (λ (p : Problem). made (c .format-in-WrongWords .result) (λ s. string-bytes s ≡ problem-line p)) (sym (c .in-WrongWords .is)) (search needs)
@@ -17,11 +19,8 @@ returns-in-WrongWords c = subst (λ (p : Problem). made (c .format-in-WrongWords
 pub returns-in-NoRule : need.returns-in-NoRule
 returns-in-NoRule c = subst (λ (p : Problem). made (c .format-in-NoRule .result) (λ s. string-bytes s ≡ problem-line p)) (sym (c .in-NoRule .is)) (search needs)
 
-pub returns-in-RuleRange : need.returns-in-RuleRange
-returns-in-RuleRange c = subst (λ (p : Problem). made (c .format-in-RuleRange .result) (λ s. string-bytes s ≡ problem-line p)) (sym (c .in-RuleRange .is)) (search needs)
+pub returns-in-Refused : need.returns-in-Refused
+returns-in-Refused c = subst (λ (p : Problem). made (c .refusal-text .result) (λ s. string-bytes s ≡ problem-line p)) (sym (c .in-Refused .is)) (search needs)
 
 pub returns-in-Unreadable : need.returns-in-Unreadable
 returns-in-Unreadable c = subst (λ (p : Problem). made (c .format-in-Unreadable .result) (λ s. string-bytes s ≡ problem-line p)) (sym (c .in-Unreadable .is)) (search needs)
-
-pub returns-in-TooLong : need.returns-in-TooLong
-returns-in-TooLong c = subst (λ (p : Problem). made (c .format-in-TooLong .result) (λ s. string-bytes s ≡ problem-line p)) (sym (c .in-TooLong .is)) (search needs)

@@ -1,14 +1,15 @@
 -- The row that a sample hands on, and what is then to come.
 use mathlib.Core.Path.{_≡_, refl, sym, ap, _∙_}
-use Prim.Native.Nat.{_-_, _<_, _+_, min}
+use mathlib.Core.List.{List}
+use Prim.Native.Nat.{ℕ, _-_, _<_, _+_, min}
 use native.Mathlib.Omega.{arith}
 use lib.ListN.{length, take}
 use Rattle.rows.specs.Cuts.{Cut, RowAt}
 use Rattle.rows.specs.Frames.{measured}
 use Rattle.rows.specs.Rules.{Meaning}
 use Rattle.rows.specs.Told.{rest, behind}
-use Rattle.rows.specs.Samples.{sample-from, sampled}
-use Rattle.rows.proofs.SampleSteps.{take-none, take-nil, tail-ahead, row-ahead, same-tail, same-sample}
+use Rattle.rows.specs.Samples.{sample-from, sample-ahead}
+use Rattle.rows.proofs.SampleSteps.{take-none, take-nil, tail-ahead, row-ahead, same-tail}
 use Rattle.rows.proofs.CutLaws.{row-told, row-gone, row-there, tail-stays, was-row, was-tail}
 use Rattle.rows.proofs.sample.Sample.row_below.Needs as need
 
@@ -24,8 +25,8 @@ returns-then-self-eq0 g c =
         tells = tail-ahead (m .frame) (s .left) (s .end) f below none;
         part = tt;
         leaves = tail-stays (sample-from (m .frame) (s .left) (s .end) f below) none;
+        stays = λ _ _. refl;
       };
-      stays = λ _. refl;
       kept = (refl, refl);
     }
 
@@ -55,8 +56,8 @@ returns-in-Row g c =
             ∙ ap (λ x. sample-from (m .frame) (s .left - 1) (t .end) f x) left
             ∙ ap (λ q. record { rows = after .rows; tail = q }) (same-tail (m .frame) (s .left) (s .end) f below (c .if-self-eq0 .left) r first (t .end) small end)
             ∙ row-gone (sample-from (m .frame) (s .left) (s .end) f below) r _ is;
+        stays = λ z _. absurd (row-there (sample-from (m .frame) (s .left) (s .end) f below) r _ is z);
       };
-      stays = λ z. absurd (row-there (sample-from (m .frame) (s .left) (s .end) f below) r _ is z);
       kept = (c .count .ensures .same .0, kept);
     }
 
@@ -68,14 +69,15 @@ returns-in-Tail g c =
     let below : Cut = g .R·RowRule .ahead (s .below) f in
     let was = c .in-Tail .ensures tt in
     let gone = was-tail (below .rows) (below .tail) _ (was .tells) .0 in
-    let same = was .stays gone in
     let none = take-nil (s .left) (below .rows) gone in
+    let still : (other : List ℕ) → sample-ahead (g .R·RowRule .means) (g .R·RowRule .ahead) (s .left) (s .end) (c .next .last .self) other ≡ sample-ahead (g .R·RowRule .means) (g .R·RowRule .ahead) (s .left) (s .end) (s .below) other =
+    λ other. ap (λ (x : Meaning). sample-from (x .frame) (s .left) (s .end) other (g .R·RowRule .ahead (c .next .last .self) other)) (was .kept) ∙ ap (sample-from (m .frame) (s .left) (s .end) other) (was .stays gone other) in
     record {
       hands = record {
         tells = tail-ahead (m .frame) (s .left) (s .end) f below none;
         part = tt;
-        leaves = ap (λ b. sample-from (g .R·RowRule .means b .frame) (s .left) (s .end) f (g .R·RowRule .ahead b f)) same ∙ tail-stays (sample-from (m .frame) (s .left) (s .end) f below) none;
+        leaves = still f ∙ tail-stays (sample-from (m .frame) (s .left) (s .end) f below) none;
+        stays = λ _. still;
       };
-      stays = λ _. same-sample (s .limit) (s .left) (s .end) _ _ _ _ same;
       kept = (refl, was .kept);
     }
