@@ -1,3 +1,4 @@
 -- Lemmas of the program's words.
 pub mod Counters
+pub mod Digits
 pub mod Nested

@@ -1,4 +1,5 @@
 -- The definitions that the contracts of the program's words cite.
 pub mod Chosen
 pub mod Listings
+pub mod Numbers
 pub mod Problems

@@ -1,5 +1,6 @@
 // The words of the program `neskvaru`: what its options mean, and the lines that it writes.
 pub mod listing;
+pub mod numbers;
 pub mod problems;
 pub mod rules;
 #[cfg(test)]

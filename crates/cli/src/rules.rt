@@ -5,6 +5,7 @@ ghost use Rattle.rows.specs.Rules.{Meaning};
 ghost use Rattle.rows.specs.Samples.{sampled};
 ghost use Rattle.rows.specs.declared.refusal.Refusal.the-variants.{OutOfRange};
 ghost use Rattle.cli.specs.Chosen.{plain-meaning, Plain-range, chosen-meaning, Sample-range, means-plain, means-any};
+use crate::numbers::number_of;
 use rows::either::Either;
 use rows::either::EitherRule;
 use rows::newline::Newline;
@@ -35,23 +36,6 @@ pub impl From<Refusal> for RuleFault as RuleFaultFromRefusal {
     fn from(refusal: Refusal) -> RuleFault {
         RuleFault::Refused(refusal)
     }
-}
-
-// The number that some digits stand for, if there are any and nothing else; one too large for 64 bits is told as the greatest.
-pub fn number_of(digits: &str) -> Option<usize> {
-    if digits.is_empty() {
-        return None;
-    }
-    let mut value: usize = 0;
-    for digit in digits.bytes() {
-        match digit {
-            b'0'..=b'9' => value = value
-                .saturating_mul(10)
-                .saturating_add((digit - b'0') as usize),
-            _ => return None,
-        }
-    }
-    Some(value)
 }
 
 // The rule for a width, or newline where there is none.

@@ -1,11 +1,11 @@
 // The words and lines of the program, on examples.
 use crate::listing::Listing;
+use crate::numbers::number_of;
 use crate::problems::Problem;
 use crate::problems::problem_text;
 use crate::rules::RuleFault;
 use crate::rules::RuleFaultDebug;
 use crate::rules::RuleFaultPartialEq;
-use crate::rules::number_of;
 use crate::rules::rule_of;
 use rows::either::EitherRule;
 use rows::newline::Newline;
