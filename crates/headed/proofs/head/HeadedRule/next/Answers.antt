@@ -22,7 +22,7 @@ returns-then-not-has-header c =
       tells = tail-told now _ none (tail-ahead done f no);
       part = rest-part f 0 (omega arith);
       leaves = tail-stays now none;
-      stays = λ _. refl;
+      stays = λ _ _. refl;
       kept = refl;
     }
 
@@ -38,6 +38,6 @@ returns c =
       tells = row-told now _ _ is;
       part = slice-part f 4 (length f - 4) (omega arith);
       leaves = row-gone now _ _ is;
-      stays = λ z. absurd (row-there now _ _ is z);
+      stays = λ z _. absurd (row-there now _ _ is z);
       kept = refl;
     }
