@@ -7,7 +7,7 @@ use Rattle.rows.specs.Refusals.{numberOf}
 use Rattle.rows.specs.declared.refusal.Refusal.{Refusal}
 use Rattle.rows.specs.declared.refusal.Refusal.the-variants.{FileTooLong, OutOfRange, BufferTooShort}
 use Rattle.cli.specs.declared.problems.Problem.{Problem}
-use Rattle.cli.specs.declared.problems.Problem.the-variants.{BadWords, NoCommand, WrongWords, NoRule, Refused, Unreadable}
+use Rattle.cli.specs.declared.problems.Problem.the-variants.{BadWords, NoCommand, WrongWords, NoRule, NoFamily, NoNumber, UnknownKind, Refused, Unreadable}
 
 -- what a refusal means
 abbrev pub reason : Refusal → List ℕ
@@ -26,5 +26,8 @@ problem-line (BadWords r) = codes "neskvaru: cannot read the words of the comman
 problem-line (NoCommand w) = codes "neskvaru: there is no command '" ++ (w .now ++ codes "'; neskvaru alone tells how it is used")
 problem-line (WrongWords f) = codes "neskvaru: too few or too many words; write: neskvaru " ++ f .now
 problem-line (NoRule w) = codes "neskvaru: '" ++ (w .now ++ codes "' is no row rule; write newline, fixed:W or sample:N:RULE")
+problem-line (NoFamily w) = codes "neskvaru: '" ++ (w .now ++ codes "' is no family; write ascii, binary or pair:FAMILY:FAMILY")
+problem-line (NoNumber w) = codes "neskvaru: '" ++ (w .now ++ codes "' is no kind from 0 to 63, or no parameter from 0 to 255")
+problem-line (UnknownKind f) = codes "neskvaru: the family '" ++ (f .now ++ codes "' does not know this kind with this parameter")
 problem-line (Refused e w) = refusal-line e (w .now)
 problem-line (Unreadable w r) = codes "neskvaru: cannot read the file '" ++ (w .now ++ (codes "': " ++ r .now))

@@ -15,6 +15,9 @@ pub enum Problem<'a> {
     // the form that the command should have
     WrongWords(&'a str),
     NoRule(&'a str),
+    NoFamily(&'a str),
+    NoNumber(&'a str),
+    UnknownKind(&'a str),
     // what was refused
     Refused(Refusal, &'a str),
     // a file's name, and the reason
@@ -64,6 +67,18 @@ pub fn problem_text(heap: Global, problem: Problem) -> Result<String, AllocError
         Problem::NoRule(words) => format!(
             heap,
             "neskvaru: '{words}' is no row rule; write newline, fixed:W or sample:N:RULE"
+        ),
+        Problem::NoFamily(words) => format!(
+            heap,
+            "neskvaru: '{words}' is no family; write ascii, binary or pair:FAMILY:FAMILY"
+        ),
+        Problem::NoNumber(word) => format!(
+            heap,
+            "neskvaru: '{word}' is no kind from 0 to 63, or no parameter from 0 to 255"
+        ),
+        Problem::UnknownKind(family) => format!(
+            heap,
+            "neskvaru: the family '{family}' does not know this kind with this parameter"
         ),
         Problem::Refused(refusal, what) => refusal_text(heap, refusal, what),
         Problem::Unreadable(name, reason) => format!(

@@ -1,12 +1,17 @@
 // The words and lines of the program, on examples.
+use crate::families::family_of;
 use crate::listing::Listing;
 use crate::numbers::number_of;
 use crate::problems::Problem;
 use crate::problems::problem_text;
+use crate::readings::cause_text;
+use crate::readings::kept_text;
+use crate::readings::number_text;
 use crate::rules::RuleFault;
 use crate::rules::RuleFaultDebug;
 use crate::rules::RuleFaultPartialEq;
 use crate::rules::rule_of;
+use fields::cause::Cause;
 use rows::either::EitherRule;
 use rows::newline::Newline;
 use rows::newline::NewlineRule;
@@ -148,5 +153,58 @@ fn problems_are_told(rt: LibcRuntime) -> Result<(), Fail> {
     check_eq(
         problem_text(heap, Problem::Refused(Refusal::OutOfRange, "fixed:0"))?.as_str(),
         "neskvaru: refused, number 11: a width is not 1 to 4096, or a sample is not 0 to 16777216: 'fixed:0'",
+    )
+}
+
+// What the words of a family say, as the names of its kinds 1 and 33.
+fn named(words: &str) -> (&'static str, &'static str) {
+    match family_of(words) {
+        Some(family) => (family.kind_name(1), family.kind_name(33)),
+        None => ("", ""),
+    }
+}
+
+#[test]
+fn words_of_families_are_read() -> Result<(), Fail> {
+    check_eq(named("ascii"), ("whole number", "field"))?;
+    check_eq(named("binary"), ("unsigned", "field"))?;
+    check_eq(named("pair:ascii:binary"), ("whole number", "unsigned"))?;
+    check_eq(
+        named("pair:pair:binary:ascii:ascii"),
+        ("unsigned", "whole number"),
+    )?;
+    check_eq(
+        named("pair:ascii:pair:binary:ascii"),
+        ("whole number", "unsigned"),
+    )?;
+    for words in [
+        "",
+        "Ascii",
+        "pair",
+        "pair:",
+        "pair:ascii",
+        "pair:ascii:binary:ascii",
+        "pair:ascii:",
+        "ascii:binary",
+    ] {
+        check(family_of(words).is_none())?;
+    }
+    Ok(())
+}
+
+#[test]
+fn readings_are_told(rt: LibcRuntime) -> Result<(), Fail> {
+    let heap = rt.alloc();
+    check_eq(
+        number_text(heap, "amount", -1250, 6, 7)?.as_str(),
+        "amount -1250, 6 of 7 bytes read",
+    )?;
+    check_eq(
+        kept_text(heap, "text", 3, 8)?.as_str(),
+        "text, 3 of 8 bytes kept",
+    )?;
+    check_eq(
+        cause_text(heap, "date", Cause::Range)?.as_str(),
+        "date: cause 3, too large, or no such date",
     )
 }

@@ -19,6 +19,15 @@ returns-in-WrongWords c = subst (λ (p : Problem). made (c .format-in-WrongWords
 pub returns-in-NoRule : need.returns-in-NoRule
 returns-in-NoRule c = subst (λ (p : Problem). made (c .format-in-NoRule .result) (λ s. string-bytes s ≡ problem-line p)) (sym (c .in-NoRule .is)) (search needs)
 
+pub returns-in-NoFamily : need.returns-in-NoFamily
+returns-in-NoFamily c = subst (λ (p : Problem). made (c .format-in-NoFamily .result) (λ s. string-bytes s ≡ problem-line p)) (sym (c .in-NoFamily .is)) (search needs)
+
+pub returns-in-NoNumber : need.returns-in-NoNumber
+returns-in-NoNumber c = subst (λ (p : Problem). made (c .format-in-NoNumber .result) (λ s. string-bytes s ≡ problem-line p)) (sym (c .in-NoNumber .is)) (search needs)
+
+pub returns-in-UnknownKind : need.returns-in-UnknownKind
+returns-in-UnknownKind c = subst (λ (p : Problem). made (c .format-in-UnknownKind .result) (λ s. string-bytes s ≡ problem-line p)) (sym (c .in-UnknownKind .is)) (search needs)
+
 pub returns-in-Refused : need.returns-in-Refused
 returns-in-Refused c = subst (λ (p : Problem). made (c .refusal-text .result) (λ s. string-bytes s ≡ problem-line p)) (sym (c .in-Refused .is)) (search needs)
 

@@ -1,0 +1,35 @@
+-- Families as the words of a command name them, and their kinds in words.
+use mathlib.Core.Bool.{Bool, true, false, cond}
+use mathlib.Core.List.{List}
+use Prim.Native.Nat.{ℕ, _-_}
+use lib.Chars.{codes}
+use lib.Dec.{eqb, leb}
+use Rattle.std.specs.declared.option.Option.the-variants.{Some, None}
+use Rattle.fields.specs.Chosen.{anyMeans, of-either}
+use Rattle.fields.specs.Meanings.{Meaning}
+use Rattle.fields.specs.Pairs.{pairMeans}
+use Rattle.fields.specs.declared.any.AnyFamily.{AnyFamily}
+use Rattle.fields.specs.declared.any.AnyFamily.the-variants.{Ascii, Binary}
+use Rattle.fields.specs.declared.either.Either.{Either}
+use Rattle.fields.specs.declared.pair.Pair.{Pair}
+use Rattle.cli.specs.declared.families.FamilyWords.{FamilyWords}
+
+abbrev pub family-means : Either AnyFamily (Pair AnyFamily AnyFamily) → ℕ → ℕ → Meaning
+family-means = of-either anyMeans (λ s. pairMeans (anyMeans (s .first)) (anyMeans (s .second)))
+
+abbrev pub words-mean : FamilyWords → ℕ → ℕ → Meaning
+words-mean w = elim (w .second) [ Some f ↦ pairMeans (anyMeans (w .first)) (anyMeans f) | None ↦ anyMeans (w .first) ]
+
+abbrev pub ascii-word : ℕ → List ℕ
+ascii-word k = cond (eqb k 1) (codes "whole number") (cond (eqb k 2) (codes "amount") (cond (eqb k 4) (codes "text") (cond (eqb k 6) (codes "date") (codes "field"))))
+
+abbrev pub binary-word : ℕ → List ℕ
+binary-word k = cond (eqb k 1) (codes "unsigned") (cond (eqb k 2) (codes "signed") (cond (eqb k 3) (codes "bytes") (codes "field")))
+
+abbrev pub kind-word : AnyFamily → ℕ → List ℕ
+kind-word Ascii k = ascii-word k
+kind-word Binary k = binary-word k
+
+-- in a pair, kinds 32 and above are those of the second family less 32
+abbrev pub kind-name : FamilyWords → ℕ → List ℕ
+kind-name w k = elim (w .second) [ Some f ↦ cond (leb 32 k) (kind-word f (k - 32)) (kind-word (w .first) k) | None ↦ kind-word (w .first) k ]
