@@ -1,24 +1,29 @@
 // The words FAMILY of a command, and the family that they stand for.
 ghost use mathlib.Core.Path.{_≡_};
 ghost use Prim.Native.Nat.{ℕ};
-ghost use Rattle.fields.specs.Chosen.{anyMeans};
 ghost use Rattle.fields.specs.Meanings.{Meaning};
 ghost use Rattle.fields.specs.Pairs.{pairMeans};
 ghost use Rattle.cli.specs.Kinds.{family-means, words-mean, ascii-word, binary-word, kind-word, kind-name};
-use fields::any::AnyFamily;
-use fields::any::ChosenFamily;
+use fields::ascii::Ascii;
+use fields::ascii::AsciiFamily;
+use fields::binary::Binary;
+use fields::binary::BinaryFamily;
 use fields::either::Either;
+use fields::either::EitherFamily;
 use fields::pair::Pair;
 use fields::pair::PairFamily;
 
+// A family that is no pair.
+pub type PlainFamily = Either<Ascii, Binary>;
+
 // A plain family, or a pair of two.
-pub type Family = Either<AnyFamily, Pair<AnyFamily, AnyFamily>>;
+pub type Family = Either<PlainFamily, Pair<PlainFamily, PlainFamily>>;
 
 // What the words say: one plain family, or the two whose kinds a pair reaches.
 #[derive(Clone, Copy)]
 pub struct FamilyWords {
-    pub first: AnyFamily,
-    pub second: Option<AnyFamily>,
+    pub first: PlainFamily,
+    pub second: Option<PlainFamily>,
 }
 
 // The family that the words stand for.
@@ -37,10 +42,10 @@ pub fn nested_pairs()
 {}
 
 // The plain family that one word names.
-fn plain_family(word: &str) -> Option<AnyFamily> {
+fn plain_family(word: &str) -> Option<PlainFamily> {
     match word {
-        "ascii" => Some(AnyFamily::Ascii),
-        "binary" => Some(AnyFamily::Binary),
+        "ascii" => Some(Either::First(Ascii)),
+        "binary" => Some(Either::Second(Binary)),
         _ => None,
     }
 }
@@ -48,7 +53,7 @@ fn plain_family(word: &str) -> Option<AnyFamily> {
 // One family read from the words: the first plain family in it, and the words behind it, if any.
 #[derive(Clone, Copy)]
 struct Taken<'a> {
-    first: AnyFamily,
+    first: PlainFamily,
     rest: Option<&'a str>,
 }
 
@@ -101,12 +106,12 @@ pub fn family_of(words: &str) -> Option<FamilyWords> {
 }
 
 // What a kind of a plain family is called.
-pub fn kind_word(family: AnyFamily, kind: u8) -> &'static str
+pub fn kind_word(family: PlainFamily, kind: u8) -> &'static str
     ensures { λ r. ⌜ now r ≡ kind-word family kind ⌝ }
 {
     match family {
-        AnyFamily::Ascii => ascii_word(kind),
-        AnyFamily::Binary => binary_word(kind),
+        Either::First(_) => ascii_word(kind),
+        Either::Second(_) => binary_word(kind),
     }
 }
 

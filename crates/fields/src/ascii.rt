@@ -1,5 +1,8 @@
 // The ASCII family: whole numbers, amounts, kept text and dates.
 ghost use mathlib.Core.Path.{_≡_};
+ghost use lib.ListN.{length, drop};
+ghost use Rattle.fields.specs.Buffers.{written};
+ghost use Rattle.fields.specs.Meanings.{moved};
 ghost use Prim.Native.Nat.{_≤_};
 ghost use Rattle.fields.specs.declared.ascii.AsciiKind.the-variants.{Amount as AmountKind};
 ghost use Rattle.fields.specs.Kinds.{asciiKind, asciiMeans};
@@ -19,6 +22,7 @@ use crate::text::read_text;
 use crate::whole::put_whole;
 use crate::whole::read_whole;
 
+// Fields as a person writes them.
 #[derive(Clone, Copy)]
 pub struct Ascii;
 
@@ -65,7 +69,10 @@ pub impl Family for Ascii as AsciiFamily {
         p: u8,
         bytes: &[u8],
         cursor: &mut Cursor,
-    ) -> Result<(usize, i64), Cause> {
+    ) -> Result<(usize, i64), Cause>
+        ensures answer { λ r. ⌜ r ≡ asciiMeans (asciiKind kind p) p .reads (drop (now (cursor .entry) .place) (now (bytes .entry))) ⌝ }
+        ensures place { λ r. ⌜ now (cursor .exit) .place ≡ moved (now (cursor .entry) .place) r ⌝ }
+    {
         match kind_of(kind, p) {
             AsciiKind::Whole => read_whole(bytes, cursor),
             AsciiKind::Amount => read_amount(p, bytes, cursor),
@@ -75,7 +82,9 @@ pub impl Family for Ascii as AsciiFamily {
         }
     }
 
-    fn spelled_length(&self, kind: u8, p: u8, number: i64) -> usize {
+    fn spelled_length(&self, kind: u8, p: u8, number: i64) -> usize
+        ensures { λ r. ⌜ r ≡ length (asciiMeans (asciiKind kind p) p .spells number) ⌝ }
+    {
         match kind_of(kind, p) {
             AsciiKind::Whole => width(number.unsigned_abs()),
             AsciiKind::Amount => amount_length(p, number),
@@ -84,7 +93,9 @@ pub impl Family for Ascii as AsciiFamily {
         }
     }
 
-    fn spell(&self, kind: u8, p: u8, number: i64, out: &mut [u8]) -> Result<usize, TooShort> {
+    fn spell(&self, kind: u8, p: u8, number: i64, out: &mut [u8]) -> Result<usize, TooShort>
+        ensures { λ r. ⌜ (r, now (out .exit)) ≡ written (asciiMeans (asciiKind kind p) p .spells number) (now (out .entry)) ⌝ }
+    {
         if out.len() < self.spelled_length(kind, p, number) {
             return Err(TooShort);
         }

@@ -4,7 +4,7 @@ ghost use Prim.Native.Nat.{_+_, _^_, _≤_, _<_};
 ghost use lib.ListN.{length, drop, take as firstBytes};
 ghost use Rattle.std.specs.Results.{Cases};
 ghost use Rattle.fields.specs.declared.cause.Cause.the-variants.{Short};
-ghost use Rattle.fields.specs.Buffers.{laid};
+ghost use Rattle.fields.specs.Buffers.{laid, written};
 ghost use Rattle.fields.specs.Meanings.{moved};
 ghost use Rattle.fields.specs.Known.{binaryTable, listed};
 ghost use Rattle.fields.specs.Octets.{big as bigOf, octets, twos, ofTwos, unsigned, complement, stored, binaryMeans};
@@ -15,6 +15,7 @@ use crate::digits::number;
 use crate::family::Family;
 use crate::family::TooShort;
 
+// Fields as a machine stores them.
 #[derive(Clone, Copy)]
 pub struct Binary;
 
@@ -149,7 +150,10 @@ pub impl Family for Binary as BinaryFamily {
         p: u8,
         bytes: &[u8],
         cursor: &mut Cursor,
-    ) -> Result<(usize, i64), Cause> {
+    ) -> Result<(usize, i64), Cause>
+        ensures answer { λ r. ⌜ r ≡ binaryMeans kind p .reads (drop (now (cursor .entry) .place) (now (bytes .entry))) ⌝ }
+        ensures place { λ r. ⌜ now (cursor .exit) .place ≡ moved (now (cursor .entry) .place) r ⌝ }
+    {
         match (kind, p) {
             (1, 1..=4) => read_unsigned(p, bytes, cursor),
             (2, 1..=4) => read_complement(p, bytes, cursor),
@@ -158,14 +162,18 @@ pub impl Family for Binary as BinaryFamily {
         }
     }
 
-    fn spelled_length(&self, kind: u8, p: u8, number: i64) -> usize {
+    fn spelled_length(&self, kind: u8, p: u8, number: i64) -> usize
+        ensures { λ r. ⌜ r ≡ length (binaryMeans kind p .spells number) ⌝ }
+    {
         match (kind, p) {
             (1 | 2, 1..=4) => p as usize,
             _ => 0,
         }
     }
 
-    fn spell(&self, kind: u8, p: u8, number: i64, out: &mut [u8]) -> Result<usize, TooShort> {
+    fn spell(&self, kind: u8, p: u8, number: i64, out: &mut [u8]) -> Result<usize, TooShort>
+        ensures { λ r. ⌜ (r, now (out .exit)) ≡ written (binaryMeans kind p .spells number) (now (out .entry)) ⌝ }
+    {
         if out.len() < self.spelled_length(kind, p, number) {
             return Err(TooShort);
         }

@@ -1,6 +1,5 @@
 // Field families: what the kinds of a layout mean on the bytes of a row, how they are read and how they are spelled.
 mod amount;
-pub mod any;
 pub mod ascii;
 pub mod binary;
 pub mod cause;

@@ -1,5 +1,8 @@
 // A pair of families is a family: kinds 0 to 31 are the first's, 32 to 63 the second's less 32.
 ghost use mathlib.Core.Path.{_≡_};
+ghost use lib.ListN.{length, drop};
+ghost use Rattle.fields.specs.Buffers.{written};
+ghost use Rattle.fields.specs.Meanings.{moved};
 ghost use Rattle.fields.specs.Known.{Halves};
 ghost use Rattle.fields.specs.Pairs.{pairMeans};
 use crate::cause::Cause;
@@ -8,6 +11,7 @@ use crate::cursor::Cursor;
 use crate::family::Family;
 use crate::family::TooShort;
 
+// Two families side by side.
 #[derive(Clone, Copy)]
 pub struct Pair<A, B> {
     first: A,
@@ -42,7 +46,10 @@ pub impl<A: Family, B: Family> Family for Pair<A, B> as PairFamily {
         p: u8,
         bytes: &[u8],
         cursor: &mut Cursor,
-    ) -> Result<(usize, i64), Cause> {
+    ) -> Result<(usize, i64), Cause>
+        ensures answer { λ r. ⌜ r ≡ pairMeans (A·Family .means (now (self .entry) .first)) (B·Family .means (now (self .entry) .second)) kind p .reads (drop (now (cursor .entry) .place) (now (bytes .entry))) ⌝ }
+        ensures place { λ r. ⌜ now (cursor .exit) .place ≡ moved (now (cursor .entry) .place) r ⌝ }
+    {
         match kind {
             0..=31 => self.first.read(kind, p, bytes, cursor),
             32..=63 => self.second.read(kind - 32, p, bytes, cursor),
@@ -50,7 +57,9 @@ pub impl<A: Family, B: Family> Family for Pair<A, B> as PairFamily {
         }
     }
 
-    fn spelled_length(&self, kind: u8, p: u8, number: i64) -> usize {
+    fn spelled_length(&self, kind: u8, p: u8, number: i64) -> usize
+        ensures { λ r. ⌜ r ≡ length (pairMeans (A·Family .means (now (self .entry) .first)) (B·Family .means (now (self .entry) .second)) kind p .spells number) ⌝ }
+    {
         match kind {
             0..=31 => self.first.spelled_length(kind, p, number),
             32..=63 => self.second.spelled_length(kind - 32, p, number),
@@ -58,7 +67,9 @@ pub impl<A: Family, B: Family> Family for Pair<A, B> as PairFamily {
         }
     }
 
-    fn spell(&self, kind: u8, p: u8, number: i64, out: &mut [u8]) -> Result<usize, TooShort> {
+    fn spell(&self, kind: u8, p: u8, number: i64, out: &mut [u8]) -> Result<usize, TooShort>
+        ensures { λ r. ⌜ (r, now (out .exit)) ≡ written (pairMeans (A·Family .means (now (self .entry) .first)) (B·Family .means (now (self .entry) .second)) kind p .spells number) (now (out .entry)) ⌝ }
+    {
         match kind {
             0..=31 => self.first.spell(kind, p, number, out),
             32..=63 => self.second.spell(kind - 32, p, number, out),

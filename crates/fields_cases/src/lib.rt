@@ -67,7 +67,7 @@ fn refused_by<F: Family>(family: &F, case: &Case, out: &mut [u8]) -> bool {
         return false;
     }
     for byte in out.iter() {
-        if *byte != 0 {
+        if *byte != 0xAA {
             return false;
         }
     }
@@ -83,12 +83,15 @@ pub fn spells<F: Family>(family: &F, case: &Case) -> bool {
         return true;
     }
     let len = family.spelled_length(case.kind, case.p, case.number);
-    let mut out = [0u8; 32];
-    let mut short = [0u8; 32];
+    let mut out = [0xAAu8; 32];
+    let mut short = [0xAAu8; 32];
     if len != case.len || len == 0 || len > 32 {
         return false;
     }
-    spelled_into(family, case, &mut out[4..]) && refused_by(family, case, &mut short[0..len - 1])
+    spelled_into(family, case, &mut out[4..])
+        && agree(&out, &[0xAA; 4], 4)
+        && (len + 4 >= 32 || out[len + 4] == 0xAA)
+        && refused_by(family, case, &mut short[0..len - 1])
 }
 
 // Whether all is as the case says.
@@ -99,12 +102,12 @@ pub fn stands<F: Family>(family: &F, case: &Case) -> bool {
 #[cfg(test)]
 mod tests {
     use super::*;
-    use fields::any::AnyFamily;
-    use fields::any::ChosenFamily;
     use fields::ascii::Ascii;
     use fields::ascii::AsciiFamily;
     use fields::binary::Binary;
     use fields::binary::BinaryFamily;
+    use fields::either::Either;
+    use fields::either::EitherFamily;
     use fields::pair::Pair;
     use fields::pair::PairFamily;
     use std::test::*;
@@ -124,6 +127,7 @@ mod tests {
             fault(1, 0, b"x1", 2),
             fault(1, 0, b"-1", 2),
             fault(1, 1, b"1", 2),
+            fault(1, 0, b"0000000000000x", 3),
         ];
         for case in cases {
             check(stands(&Ascii, &case))?;
@@ -138,6 +142,10 @@ mod tests {
             good(2, 2, b"-0.05", 5, -5),
             good(2, 2, b"-12.50,", 6, -1250),
             good(2, 2, b"1.00", 4, 100),
+            good(2, 1, b"-9.5", 4, -95),
+            good(2, 3, b"0.001 ", 5, 1),
+            fault(2, 2, b"1234567890123x", 2),
+            fault(2, 0, b"0000000000000", 3),
             good(2, 2, b"9999999999.99", 13, 999999999999),
             good(2, 0, b"12.5", 2, 12),
             good(2, 0, b"-999999999999", 13, -999999999999),
@@ -244,7 +252,9 @@ mod tests {
 
     #[test]
     fn pairs() -> Result<(), Fail> {
-        let pair = Pair::new(AnyFamily::Ascii, AnyFamily::Binary);
+        let ascii: Either<Ascii, Binary> = Either::First(Ascii);
+        let binary: Either<Ascii, Binary> = Either::Second(Binary);
+        let pair = Pair::new(ascii, binary);
         let cases = [
             good(1, 0, b"17", 2, 17),
             good(33, 2, b"\x01\x02", 2, 258),
@@ -257,7 +267,7 @@ mod tests {
         for case in cases {
             check(stands(&pair, &case))?;
         }
-        let nested = Pair::new(pair, AnyFamily::Ascii);
+        let nested = Pair::new(pair, ascii);
         check(stands(&nested, &good(33, 0, b"5", 1, 5)))?;
         check(stands(&nested, &fault(3, 1, b"5", 2)))
     }
