@@ -12,9 +12,9 @@ pub const LONGEST: usize = 16_777_216;
 // Sets a rule on a file that is not too long: all its rows are to come. A refusal leaves the rule as it was.
 pub fn set_on<R: RowRule>(rule: &mut R, file: &[u8]) -> Result<(), Refusal>
     ensures value { result ≡ taken file.now }
-    ensures after { MatchResult result (λ _. ahead rule.new file.now ≡ (means rule.old).cut file.now) (λ _. rule.new ≡ rule.old) }
-    ensures kept { means rule.new ≡ means rule.old }
-    ensures laws { MatchResult result (λ _. CutWell (means rule.old) file.now) (λ _. 16777216 < length file.now) }
+    ensures after { MatchResult result (λ _. R.ahead rule.new file.now ≡ (R.means rule.old).cut file.now) (λ _. rule.new ≡ rule.old) }
+    ensures kept { R.means rule.new ≡ R.means rule.old }
+    ensures laws { MatchResult result (λ _. CutWell (R.means rule.old) file.now) (λ _. 16777216 < length file.now) }
 {
     if file.len() > LONGEST {
         return Err(Refusal::FileTooLong);
