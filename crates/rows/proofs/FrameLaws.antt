@@ -1,10 +1,10 @@
 -- Writing a frame into a buffer: when it is refused, and what it leaves.
-use Rattle.std.proofs.Common.{◌≡◌, ℕ, suc, ◌+◌, ◌<◌, ◌≤◌, Bool, true, false, ◌&&◌, leb, List, [], ◌∷◌, ◌++◌, length, take, drop, set, Ok, Err, sym, refl, ap, ◌∙◌, add-one, arith, le-leb}
+use Rattle.std.proofs.Common.{◌≡◌, ℕ, ◌+◌, ◌<◌, ◌≤◌, leb, List, [], ◌∷◌, ◌++◌, length, take, drop, set, Ok, Err, sym, ap, ◌∙◌, add-one, arith, le-leb}
 use borrow.Author.Tests.{lt-leb}
 use Rattle.std.proofs.lemmas.Bool.{and_from, and_right}
 use Rattle.std.proofs.lemmas.List.{take-append-drop, length-take-le, take_all, length-append, append_assoc, set_split}
 use Rattle.rows.specs.declared.refusal.Refusal.TheVariants.{BufferTooShort}
-use Rattle.rows.specs.Frames.{Written, laid, written_if, framed}
+use Rattle.rows.specs.Frames.{laid, written_if, framed}
 
 module _ (frame : List ℕ → List ℕ) (n : ℕ) (buffer : List ℕ) where
   -- the frame does not fit

@@ -1,11 +1,10 @@
 -- What the newline rule hands out, and what is then to come.
-use Rattle.std.proofs.Common.{◌≡◌, ℕ, zero, suc, ◌+◌, ◌-◌, ◌<◌, ◌≤◌, min, Bool, true, false, not, ◌&&◌, eqb, List, [], ◌∷◌, ◌++◌, length, get_or, take, drop, sym, refl, ap, ◌∙◌, subst, arith, eq-eqb, ne_eqb, eqb-true}
+use Rattle.std.proofs.Common.{◌≡◌, ℕ, zero, suc, ◌+◌, ◌-◌, ◌<◌, ◌≤◌, min, Bool, true, false, not, ◌&&◌, eqb, List, [], ◌∷◌, ◌++◌, length, get_or, take, drop, sym, refl, ap, ◌∙◌, arith, eq-eqb, ne_eqb, eqb-true}
 use borrow.Author.Tests.{eqb-false}
-use Rattle.std.proofs.lemmas.List.{drop-drop, drop_more, drop_all, take_all, take_rest, take-append-drop, length-drop, length-take-le, get_or-drop, get_or-take}
+use Rattle.std.proofs.lemmas.List.{drop-drop, drop_more, drop_all, take_rest, take-append-drop, length-drop, length-take-le, get_or-drop, get_or-take}
 use Rattle.std.proofs.lemmas.Bool.{and_from, not_from_false}
-use Rattle.rows.specs.Cuts.{RowAt, TailAt, Cut}
-use Rattle.rows.specs.Told.{Told, row, tail, piece_of, behind, HandsOut, TellsTail, rest_at, row_between}
-use Rattle.rows.specs.Newlines.{put, lines, lacks, newline_from}
+use Rattle.rows.specs.Told.{HandsOut, TellsTail, rest_at, row_between}
+use Rattle.rows.specs.Newlines.{lines, lacks, newline_from}
 use Rattle.rows.specs.declared.piece.Mark.TheVariants.{Ended, Unended}
 use Rattle.rows.specs.CutLaws.{row_told, row_gone, row_there, tail_told, tail_stays}
 use Rattle.rows.specs.NewlineCuts.{line_ended, line_unended}

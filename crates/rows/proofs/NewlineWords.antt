@@ -1,11 +1,11 @@
 -- The rows of the newline rule, in its own words.
-use Rattle.std.proofs.Common.{◌≡◌, ℕ, zero, suc, ◌+◌, ◌-◌, ◌<◌, ◌≤◌, Bool, true, false, cond, not, eqb, List, [], ◌∷◌, ◌++◌, length, get_or, sym, refl, ap, ◌∙◌, arith}
+use Rattle.std.proofs.Common.{◌≡◌, ℕ, zero, suc, ◌+◌, ◌-◌, ◌<◌, Bool, true, false, cond, not, eqb, List, [], ◌∷◌, ◌++◌, length, get_or, refl, ap, ◌∙◌, arith}
 use borrow.Author.Tests.{eqb-false}
 use Rattle.std.proofs.lemmas.List.{length-append}
 use Rattle.std.proofs.lemmas.Bool.{and_parts, not-true}
 use Rattle.rows.specs.Cuts.{RowAt, texts, Each}
 use Rattle.rows.specs.Newlines.{put, lines, lacks, some, newline_frame, newline_carries}
-use Rattle.rows.specs.Words.{newlines, end_after, ends, unended, last_unended, last_not_0_a, EndedButLast, NewlineRows}
+use Rattle.rows.specs.Words.{newlines, end_after, ends, last_unended, last_not_0_a, EndedButLast, NewlineRows}
 use Rattle.rows.specs.declared.piece.Mark.{Mark}
 use Rattle.rows.specs.declared.piece.Mark.TheVariants.{Ended, Unended}
 use Rattle.rows.specs.CutLaws.{cons_not_nil}

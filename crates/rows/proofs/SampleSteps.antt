@@ -1,9 +1,9 @@
 -- What a sample hands out, and what is then to come.
-use Rattle.std.proofs.Common.{◌≡◌, ℕ, zero, suc, ◌+◌, ◌-◌, ◌<◌, ◌≤◌, min, List, [], ◌∷◌, ◌++◌, length, take, drop, sym, refl, ap, ◌∙◌, subst, arith}
+use Rattle.std.proofs.Common.{◌≡◌, ℕ, zero, suc, ◌+◌, ◌-◌, ◌<◌, min, List, [], ◌∷◌, ◌++◌, length, take, drop, sym, refl, ap, ◌∙◌, arith}
 use Rattle.std.proofs.lemmas.List.{length-append}
-use Rattle.rows.specs.Cuts.{RowAt, TailAt, Cut, texts, frames}
+use Rattle.rows.specs.Cuts.{RowAt, Cut, texts, frames}
 use Rattle.rows.specs.Frames.{measured}
-use Rattle.rows.specs.Told.{Told, tail, piece_of, rest, behind, rest_at}
+use Rattle.rows.specs.Told.{piece_of, rest, behind, rest_at}
 use Rattle.rows.specs.Samples.{frames_end, sample_from}
 use Rattle.rows.specs.declared.piece.Mark.{Mark}
 use Rattle.rows.specs.CutLaws.{tail_told}

@@ -1,9 +1,9 @@
 -- What a fixed width hands out, and what is then to come.
-use Rattle.std.proofs.Common.{◌≡◌, ℕ, suc, ◌+◌, ◌-◌, ◌*◌, ◌/◌, ◌<◌, ◌≤◌, min, List, [], ◌∷◌, length, take, drop, sym, refl, ap, ◌∙◌, subst, add-zero, suc-mul, zero-mul, add-one, arith}
+use Rattle.std.proofs.Common.{◌≡◌, ℕ, suc, ◌+◌, ◌-◌, ◌*◌, ◌/◌, ◌<◌, ◌≤◌, min, List, [], ◌∷◌, length, take, drop, sym, ap, ◌∙◌, add-zero, suc-mul, zero-mul, add-one, arith}
 use native.Mathlib.Nat.{div-eq_of_lt, div-eq-sub-div}
 use Rattle.std.proofs.lemmas.List.{drop-drop}
-use Rattle.rows.specs.Cuts.{RowAt, TailAt, Cut}
-use Rattle.rows.specs.Told.{piece_of, behind, HandsOut, TellsTail, rest_at, row_between}
+use Rattle.rows.specs.Cuts.{TailAt}
+use Rattle.rows.specs.Told.{HandsOut, TellsTail, rest_at, row_between}
 use Rattle.rows.specs.Widths.{slabs, fixed_count, fixed_from, fixed_at}
 use Rattle.rows.specs.declared.piece.Mark.TheVariants.{Ended}
 use Rattle.rows.specs.CutLaws.{row_told, row_gone, row_there, tail_told, tail_stays}

@@ -1,10 +1,10 @@
 -- Laws of rows, frames and parts of a file, for every rule.
-use Rattle.std.specs.Prelude.{◌≡◌, ℕ, zero, suc, ◌+◌, ◌-◌, ◌<◌, ◌≤◌, List, [], ◌∷◌, ◌++◌, length, take, drop, ◌≢◌, refl}
+use Rattle.std.specs.Prelude.{◌≡◌, ℕ, zero, suc, ◌+◌, ◌-◌, ◌≤◌, List, [], ◌∷◌, ◌++◌, length, take, drop, ◌≢◌, refl}
 use Rattle.std.proofs.Common.{sym, ap, subst, ◌∙◌, arith}
 use Rattle.std.proofs.lemmas.List.{append_assoc, length-append, length-drop, length-take-le, take-append-drop, take_rest}
 use Rattle.rows.specs.Cuts.{RowAt, TailAt, Cut, Text, text, texts, frames, Each, PartOf, File}
-use Rattle.rows.specs.Rules.{Meaning, Lawful, NoEmptyFrame}
-use Rattle.rows.specs.Told.{Told, row, tail, first_piece, piece_of, rest, behind}
+use Rattle.rows.specs.Rules.{Meaning, Lawful}
+use Rattle.rows.specs.Told.{row, tail, first_piece, piece_of, rest, behind}
 use Rattle.rows.specs.declared.piece.Mark.{Mark}
 
 pub cons_not_nil : {X : Type 0} (x : X) (xs : List X) → x ∷ xs ≢ []

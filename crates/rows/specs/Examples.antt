@@ -1,7 +1,5 @@
 -- Worked cuts.
-use Rattle.std.specs.Prelude.{◌≡◌, List, [], ◌∷◌}
-use Rattle.rows.specs.Cuts.{RowAt, TailAt, Cut}
-use Rattle.rows.specs.Rules.{Meaning}
+use Rattle.std.specs.Prelude.{◌≡◌, [], ◌∷◌}
 use Rattle.rows.specs.Newlines.{newline_meaning}
 use Rattle.rows.specs.Widths.{fixed_meaning}
 use Rattle.rows.specs.declared.piece.Mark.TheVariants.{Ended, Unended}

@@ -1,10 +1,10 @@
 -- What byte 0A cuts, put together again: the newline rule keeps its laws.
-use Rattle.std.specs.Prelude.{◌≡◌, ℕ, zero, suc, ◌+◌, ◌-◌, ◌<◌, ◌≤◌, Bool, true, false, not, ◌&&◌, List, [], ◌∷◌, ◌++◌, length, take, drop, ◌==◌, ◌≢◌, refl}
+use Rattle.std.specs.Prelude.{◌≡◌, ℕ, suc, ◌+◌, ◌<◌, ◌≤◌, Bool, true, false, not, List, [], ◌∷◌, ◌++◌, length, take, drop, ◌==◌, ◌≢◌, refl}
 use Rattle.std.proofs.Common.{sym, ap, subst, ◌∙◌, arith, eqb-true, ne_eqb}
 use Rattle.std.proofs.lemmas.List.{append_assoc, append-nil, length-append, drop_at, drop_all}
 use Rattle.std.proofs.lemmas.Bool.{and_parts, and_from, not-true, not_from_false}
-use Rattle.rows.specs.Cuts.{RowAt, Text, text, texts, frames, Each, PartOf, Bytes, File}
-use Rattle.rows.specs.Rules.{Meaning, Lawful, ExchangeLeavesTheRest, joined, swapped}
+use Rattle.rows.specs.Cuts.{RowAt, Text, texts, frames, Each, PartOf}
+use Rattle.rows.specs.Rules.{Lawful, ExchangeLeavesTheRest, swapped}
 use Rattle.rows.specs.Newlines.{put, lines, lacks, some, newline_frame, newline_carries, newline_meaning}
 use Rattle.rows.specs.declared.piece.Mark.{Mark}
 use Rattle.rows.specs.declared.piece.Mark.TheVariants.{Ended, Unended}

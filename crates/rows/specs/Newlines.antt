@@ -1,6 +1,6 @@
 -- What byte 0A cuts.
 use Rattle.std.specs.Prelude.{ℕ, ◌+◌, Bool, true, false, not, ◌&&◌, List, [], ◌∷◌, ◌++◌, length, drop, ◌==◌}
-use Rattle.rows.specs.Cuts.{RowAt, TailAt, Cut}
+use Rattle.rows.specs.Cuts.{RowAt, Cut}
 use Rattle.rows.specs.Rules.{Meaning}
 use Rattle.rows.specs.declared.piece.Mark.{Mark}
 use Rattle.rows.specs.declared.piece.Mark.TheVariants.{Ended, Unended}

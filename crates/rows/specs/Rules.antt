@@ -1,6 +1,6 @@
 -- What a row rule means for any file, and what every rule owes.
 use Rattle.std.specs.Prelude.{◌≡◌, ℕ, Bool, true, List, [], ◌∷◌, ◌++◌, ◌≢◌}
-use Rattle.rows.specs.Cuts.{RowAt, Text, Cut, texts, frames, Each, PartOf, Bytes, File}
+use Rattle.rows.specs.Cuts.{Text, Cut, texts, frames, Each, PartOf, Bytes, File}
 use Rattle.rows.specs.declared.piece.Mark.{Mark}
 
 -- The fixed part of a rule, the same at every moment: how it cuts a file, the frame of a row under a mark

@@ -1,10 +1,10 @@
 -- The first rows of a lawful rule keep its laws.
-use Rattle.std.specs.Prelude.{◌≡◌, ℕ, zero, suc, ◌+◌, ◌-◌, ◌<◌, ◌≤◌, min, true, List, [], ◌∷◌, ◌++◌, length, take, drop, refl}
-use Rattle.std.proofs.Common.{sym, ap, subst, ◌∙◌, arith}
+use Rattle.std.specs.Prelude.{◌≡◌, ℕ, zero, suc, ◌+◌, List, [], ◌∷◌, ◌++◌, length, take, drop, refl}
+use Rattle.std.proofs.Common.{sym, ap, ◌∙◌, arith}
 use Rattle.std.proofs.lemmas.List.{append_assoc, length-append, drop_at, drop_all}
-use Rattle.rows.specs.Cuts.{RowAt, TailAt, Text, text, texts, frames, Each, PartOf, Bytes, File}
+use Rattle.rows.specs.Cuts.{RowAt, Text, texts, frames, File}
 use Rattle.rows.specs.Rules.{Meaning, Lawful, ExchangeLeavesTheRest, joined, swapped}
-use Rattle.rows.specs.Samples.{frames_end, sample_from, sampled}
+use Rattle.rows.specs.Samples.{frames_end, sampled}
 use Rattle.rows.specs.Words.{SampleRows}
 use Rattle.rows.specs.CutLaws.{frames_append, texts_split, texts_take, texts_drop, texts_length, each_take, rest_part}
 

@@ -1,10 +1,10 @@
 -- What a fixed width cuts, put together again: the fixed width rule keeps its laws.
-use Rattle.std.specs.Prelude.{◌≡◌, ℕ, zero, suc, ◌+◌, ◌-◌, ◌*◌, ◌/◌, ◌<◌, ◌≤◌, Bool, true, false, List, [], ◌∷◌, ◌++◌, length, take, drop, ◌≢◌, refl}
+use Rattle.std.specs.Prelude.{◌≡◌, ℕ, zero, suc, ◌+◌, ◌-◌, ◌*◌, ◌/◌, ◌<◌, ◌≤◌, true, List, [], ◌∷◌, ◌++◌, length, take, drop, ◌≢◌, refl}
 use Rattle.std.proofs.Common.{sym, ap, subst, ◌∙◌, zero-mul, zero-add, suc-mul, add_comm, div-mul-le_self, add-zero, arith, eqb-true}
 use Rattle.std.proofs.Math.Path.{fun_ext}
 use Rattle.std.proofs.Math.Nat.{lt-div-mul-add, mul-add-div_right, div-eq_of_lt, sub-zero}
 use Rattle.std.proofs.lemmas.List.{append_assoc, take-append-drop, drop-drop, length-drop, length-append, length-take-le, take_at, drop_at}
-use Rattle.rows.specs.Cuts.{RowAt, TailAt, Text, text, texts, frames, Each, PartOf, File}
+use Rattle.rows.specs.Cuts.{RowAt, Text, texts, frames, Each, PartOf}
 use Rattle.rows.specs.Rules.{Meaning, Lawful, ExchangeLeavesTheRest, swapped}
 use Rattle.rows.specs.Widths.{slabs, fixed_count, fixed_from, fixed_at, fixed_frame, fixed_carries, fixed_meaning}
 use Rattle.rows.specs.declared.piece.Mark.{Mark}

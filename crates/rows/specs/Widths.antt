@@ -1,6 +1,6 @@
 -- What a fixed width cuts.
-use Rattle.std.specs.Prelude.{ℕ, zero, suc, ◌+◌, ◌-◌, ◌*◌, ◌/◌, min, Bool, true, false, List, [], ◌∷◌, length, take, drop, ◌==◌}
-use Rattle.rows.specs.Cuts.{RowAt, TailAt, Cut}
+use Rattle.std.specs.Prelude.{ℕ, zero, suc, ◌+◌, ◌-◌, ◌*◌, ◌/◌, min, Bool, false, List, [], ◌∷◌, length, take, drop, ◌==◌}
+use Rattle.rows.specs.Cuts.{RowAt, Cut}
 use Rattle.rows.specs.Rules.{Meaning}
 use Rattle.rows.specs.declared.piece.Mark.{Mark}
 use Rattle.rows.specs.declared.piece.Mark.TheVariants.{Ended, Unended}

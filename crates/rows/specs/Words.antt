@@ -1,6 +1,6 @@
 -- What the rows of each rule are, in the rule's own words and apart from its cutting.
 use Rattle.std.specs.Prelude.{◌≡◌, ℕ, ◌+◌, ◌-◌, ◌<◌, ◌≤◌, Bool, true, false, cond, not, List, [], ◌∷◌, length, take, drop, ◌==◌, ◌≢◌, slice_index}
-use Rattle.rows.specs.Cuts.{RowAt, Cut, texts, frames, Each, PartOf}
+use Rattle.rows.specs.Cuts.{RowAt, texts, frames, Each, PartOf}
 use Rattle.rows.specs.Rules.{Meaning}
 use Rattle.rows.specs.Newlines.{newline_frame, newline_meaning}
 use Rattle.rows.specs.Widths.{fixed_meaning}

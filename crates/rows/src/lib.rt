@@ -1,4 +1,6 @@
 // Row rules: how a bank's export is cut into rows.
+#![tactic(auto)]
+
 pub mod either;
 pub mod file;
 mod frames;

@@ -6,6 +6,6 @@ use Rattle.rows.proofs.newline.lacks_newline.Goals as goal
 pub returns : goal.returns
 returns c =
     let row = c.args.row.now in
-    let r = c.line-end.result in
-    let e = c.line-end.ensures in
+    let r = c.line_end.result in
+    let e = c.line_end.ensures in
     search_ends (eqb r (length row)) row r refl e.bound.1 e.before e.found

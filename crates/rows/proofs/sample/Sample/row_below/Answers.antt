@@ -1,9 +1,9 @@
 -- The row that a sample hands on, and what is then to come.
-use Rattle.std.proofs.Common.{◌≡◌, ℕ, ◌+◌, ◌-◌, ◌<◌, min, List, length, take, sym, refl, ap, ◌∙◌, arith}
+use Rattle.std.proofs.Common.{◌≡◌, ℕ, ◌+◌, ◌-◌, ◌<◌, min, List, length, refl, ap, ◌∙◌, arith}
 use Rattle.rows.specs.Cuts.{Cut, RowAt}
 use Rattle.rows.specs.Frames.{measured}
 use Rattle.rows.specs.Rules.{Meaning}
-use Rattle.rows.specs.Told.{rest, behind}
+use Rattle.rows.specs.Told.{behind}
 use Rattle.rows.specs.Samples.{sample_from, sample_ahead}
 use Rattle.rows.proofs.SampleSteps.{take_none, take_nil, tail_ahead, row_ahead, same_tail}
 use Rattle.rows.specs.CutLaws.{row_told, row_gone, row_there, tail_stays, was_row, was_tail}
@@ -41,7 +41,7 @@ returns-in-Row g c =
     let is = row_ahead m.frame s.left s.end f below c.if-self-eq0.false r first in
     let small : length f < 18446744073709551616 = omega arith in
     let end : t.end ≡ min (s.end + measured (length (m.frame r.bytes r.mark))) 18446744073709551615 =
-    c.count.ensures.end ∙ ap (λ k. min (s.end + k) 18446744073709551615) (c.frame-length-frame.ensures ∙ ap (λ (x : Meaning). measured (length (x.frame r.bytes r.mark))) was.kept) in
+    c.count.ensures.end ∙ ap (λ k. min (s.end + k) 18446744073709551615) (c.frame_length-frame.ensures ∙ ap (λ (x : Meaning). measured (length (x.frame r.bytes r.mark))) was.kept) in
     let after : Cut = sample_from m.frame (s.left - 1) t.end f (behind below) in
     record {
       hands = record {
