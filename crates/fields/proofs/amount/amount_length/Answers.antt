@@ -24,7 +24,7 @@ returns c =
     let z = c.args.number in
     let p = c.args.p in
     let i = to_z-of_z w64 z c.ranges.number in
-    let s : c.sign-length.result ≡ length (minus_of z) = c.sign-length.ensures.is ∙ ap (λ y. length (minus_of y)) i in
-    let n : c.unsigned-abs.result ≡ nat_abs z = c.unsigned-abs.ensures.value ∙ ap nat_abs i in
+    let s : c.sign_length.result ≡ length (minus_of z) = c.sign_length.ensures.is ∙ ap (λ y. length (minus_of y)) i in
+    let n : c.unsigned_abs.result ≡ nat_abs z = c.unsigned_abs.ensures.value ∙ ap nat_abs i in
     let d : c.width.result ≡ length (decimal (nat_abs z / 10 ^ p)) = c.width.ensures ∙ ap (λ m. length (decimal (m / c.scale.result))) n ∙ ap (λ q. length (decimal (nat_abs z / q))) c.scale.ensures in
-    omega (arith, length_amount p z, c.point-length.ensures.is)
+    omega (arith, length_amount p z, c.point_length.ensures.is)

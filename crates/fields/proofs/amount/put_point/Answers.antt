@@ -30,11 +30,11 @@ returns c =
     let e : 46 ∷ ds ≡ point_of c.args.p c.args.n = ap (λ s. 46 ∷ padded c.args.p (c.args.n % s)) c.scale.ensures ∙ sym (point c.args.p c.args.n c.if-p-eq0.false) in
     let l = ap length e in
     record {
-      len = omega (arith, c.put-digits.ensures.len, c.put-byte-after.ensures.len);
+      len = omega (arith, c.put_digits.ensures.len, c.put_byte-after.ensures.len);
       after =
-          c.put-digits.ensures.after
-          ∙ ap (λ k. over k ds c.put-byte-after.new.out) c.put-byte-after.ensures.len
-          ∙ ap (over (at + 1) ds) c.put-byte-after.ensures.after
-          ∙ over_over at (46 ∷ []) ds out (omega (arith, c.requires.1))
+          c.put_digits.ensures.after
+          ∙ ap (λ k. over k ds c.put_byte-after.new.out) c.put_byte-after.ensures.len
+          ∙ ap (over (at + 1) ds) c.put_byte-after.ensures.after
+          ∙ over_over at (46 ∷ []) ds out (omega (arith, c.requires.n_in_bounds))
           ∙ ap (λ w. over at w out) e;
     }

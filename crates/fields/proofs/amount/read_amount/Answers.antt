@@ -40,13 +40,13 @@ record Whole (p : ℕ) (bs : List ℕ) (n : ℕ) : Type 0 where
   is : n ≡ units p (body bs)
   small : n < 10 ^ 12
 
-full : (c : After-value) → Split c.args.bytes.now c.args.cursor.now.place c.skip-byte-minus.new.self.place c.skip-run-whole.result c.skip-run-whole.new.self.place →
-    Whole c.args.p (drop c.args.cursor.now.place c.args.bytes.now) (c.value.result * 10 ^ c.args.p + c.in-ok-fraction.fraction)
+full : (c : After-value) → Split c.args.bytes.now c.args.cursor.now.place c.skip_byte-minus.new.self.place c.skip_run-whole.result c.skip_run-whole.new.self.place →
+    Whole c.args.p (drop c.args.cursor.now.place c.args.bytes.now) (c.value.result * 10 ^ c.args.p + c.in_ok-fraction.fraction)
 full c s =
     let bytes = c.args.bytes.now in
     let start = c.args.cursor.now.place in
     let p = c.args.p in
-    let e = c.in-ok-fraction.ensures in
+    let e = c.in_ok-fraction.ensures in
     let f = formed_at p bytes start _ _ _ s c.if-whole-eq0.false e.0 in
     let w : run (body (drop start bytes)) + p ≤ 12 = omega (arith, s.whole-is) in
     let u = units_at p bytes start _ _ _ _ _ s c.value.ensures.is e.1 in

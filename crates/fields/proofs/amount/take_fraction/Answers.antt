@@ -23,10 +23,10 @@ pub returns : goal.returns
 returns c =
     let bytes = c.args.bytes.now in
     let at = c.args.cursor.now.place in
-    let b = c.in-ok-take-byte.ensures in
+    let b = c.in_ok-take_byte.ensures in
     let e = part_at bytes at 1 _ b.1 in
-    let r = c.skip-run.ensures.is ∙ ap run e in (
-      sym (point_is c.args.p _ (drop at bytes) c.if-p-eq0.false b.0 r) ∙ eq-eqb _ _ c.if-skip-run-p.false,
+    let r = c.skip_run.ensures.is ∙ ap run e in (
+      sym (point_is c.args.p _ (drop at bytes) c.if-p-eq0.false b.0 r) ∙ eq-eqb _ _ c.if-skip_run-p.false,
       c.value.ensures.is ∙ ap (λ x. value (take c.args.p x)) e,
-      omega (arith, c.skip-run.ensures.place, b.1, point_len_lem c.args.p c.if-p-eq0.false),
+      omega (arith, c.skip_run.ensures.place, b.1, point_len_lem c.args.p c.if-p-eq0.false),
     )

@@ -8,12 +8,12 @@ use Rattle.fields.proofs.date.put_date.Goals as goal
 
 pub returns : goal.returns
 returns c =
-    let n = c.unsigned-abs-n.result in
+    let n = c.unsigned_abs-n.result in
     let e = c.args.out.now in
-    let a : n ≡ nat_abs c.args.number = c.unsigned-abs-n.ensures.value ∙ ap nat_abs (to_z-of_z w64 c.args.number c.ranges.number) in
+    let a : n ≡ nat_abs c.args.number = c.unsigned_abs-n.ensures.value ∙ ap nat_abs (to_z-of_z w64 c.args.number c.ranges.number) in
     let w0 : Wrote [] e e 0 = record { len = refl; after = refl } in
-    let w1 = wrote_more (padded 4 (n / 10000)) _ _ w0 c.put-digits-at-mark.ensures.len c.put-digits-at-mark.ensures.after in
-    let w2 = wrote_more (45 ∷ []) _ _ w1 c.put-byte-at-month.ensures.len c.put-byte-at-month.ensures.after in
+    let w1 = wrote_more (padded 4 (n / 10000)) _ _ w0 c.put_digits-at_mark.ensures.len c.put_digits-at_mark.ensures.after in
+    let w2 = wrote_more (45 ∷ []) _ _ w1 c.put_byte-at_month.ensures.len c.put_byte-at_month.ensures.after in
     let w3 = wrote_more (padded 2 (n / 100 % 100)) _ _ w2 c.put-digits-at-second.ensures.len c.put-digits-at-second.ensures.after in
     let w4 = wrote_more (45 ∷ []) _ _ w3 c.put-byte-at-day.ensures.len c.put-byte-at-day.ensures.after in
     let w5 = wrote_more (padded 2 (n % 100)) _ _ w4 c.put-digits.ensures.len c.put-digits.ensures.after in

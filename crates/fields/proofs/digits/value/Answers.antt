@@ -26,7 +26,7 @@ pub overflow-add-n : goal.overflow-add-n
 overflow-add-n c = let f = front c.args.bytes.now c.args.at c.loop-i.i c.args.len c.requires.0 c.requires.1 c.loop-i-test.true in search rules
 
 pub bounds-bytes-at : goal.bounds-bytes-at
-bounds-bytes-at c = let f = front c.args.bytes.now c.args.at c.loop-i.i c.args.len c.requires.0 c.requires.1 c.loop-i-test.true in search rules
+bounds-bytes-at c = let f = front c.args.bytes.now c.args.at c.loop-i.i c.args.len c.requires.len_bound c.requires.len_bound_2 c.loop-i-test.true in search rules
 
 pub overflow-sub-n : goal.overflow-sub-n
 overflow-sub-n c = let f = front c.args.bytes.now c.args.at c.loop-i.i c.args.len c.requires.0 c.requires.1 c.loop-i-test.true in omega arith
@@ -38,7 +38,7 @@ pub loop-i-preserved : goal.loop-i-preserved
 loop-i-preserved c =
     let bs = drop c.args.at c.args.bytes.now in
     let i = c.loop-i.i in
-    let f = front c.args.bytes.now c.args.at i c.args.len c.requires.0 c.requires.1 c.loop-i-test.true in
+    let f = front c.args.bytes.now c.args.at i c.args.len c.requires.len_bound c.requires.len_bound_2 c.loop-i-test.true in
     ap (λ n. n * 10 + (get_or c.args.bytes.now (c.args.at + i) 0 - 48)) c.loop-i.invariant
     ∙ sym (ap value (take_more bs i 0 (omega (arith, f.within, length-drop c.args.at c.args.bytes.now))) ∙ value_push 0 (take i bs) (get_or bs i 0) ∙ ap (λ b. value (take i bs) * 10 + (b - 48)) f.same)
 
@@ -47,4 +47,4 @@ returns c =
     let bs = drop c.args.at c.args.bytes.now in
     let e : c.loop-i.i ≡ c.args.len = omega arith in
     let v = c.loop-i.invariant ∙ ap (λ k. value (take k bs)) e in
-    record { is = v; below = subst (λ n. n < 10 ^ c.args.len) (sym v) (value_take c.args.len c.args.len bs c.requires.0 (omega arith)); small = omega (arith, value_take c.args.len 12 bs c.requires.0 c.requires.1) }
+    record { is = v; below = subst (λ n. n < 10 ^ c.args.len) (sym v) (value_take c.args.len c.args.len bs c.requires.len_bound (omega arith)); small = omega (arith, value_take c.args.len 12 bs c.requires.len_bound c.requires.len_bound_2) }

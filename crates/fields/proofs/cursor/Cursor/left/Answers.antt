@@ -4,4 +4,4 @@ use Rattle.std.proofs.lemmas.List.{length-drop}
 use Rattle.fields.proofs.cursor.Cursor.left.Goals as goal
 
 pub returns : goal.returns
-returns c = c.saturating-sub.ensures ∙ sym (length-drop c.args.self.now.place c.args.bytes.now)
+returns c = c.saturating_sub.ensures ∙ sym (length-drop c.args.self.now.place c.args.bytes.now)
