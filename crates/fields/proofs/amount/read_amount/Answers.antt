@@ -48,7 +48,7 @@ full c s =
     let p = c.args.p in
     let e = c.in_ok-fraction.ensures in
     let f = formed_at p bytes start _ _ _ s c.if-whole-eq0.false e.0 in
-    let w : run (body (drop start bytes)) + p ≤ 12 = omega (arith, s.whole-is) in
+    let w : run (body (drop start bytes)) + p ≤ 12 = omega (arith, s.whole_is) in
     let u = units_at p bytes start _ _ _ _ _ s c.value.ensures.is e.1 in
     record { some = λ h. omega (arith, c.left.ensures); form = f; few = w; is = u; small = omega (arith, (body_parts p (body (drop start bytes)) f).small w) }
 

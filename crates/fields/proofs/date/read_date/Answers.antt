@@ -79,15 +79,15 @@ pub returns : goal.returns
 returns c =
     let bytes = c.args.bytes.now in
     let start = c.args.cursor.now.place in
-    let t = parts_at_lem bytes start _ _ _ _ _ _ _ c.in_ok-year.ensures c.in_ok-take_byte.ensures c.in_ok-month.ensures c.in-ok-take-byte-2.ensures (c.in-ok-day.ensures.0, c.in-ok-day.ensures.1) in
+    let t = parts_at_lem bytes start _ _ _ _ _ _ _ c.in_ok-year.ensures c.in_ok-take_byte.ensures c.in_ok-month.ensures c.in_ok-take_byte-2.ensures (c.in_ok-day.ensures.0, c.in_ok-day.ensures.1) in
     let n = c.number.result in
     let fits : SFits w64 n = search rules in
     let y = t.years in
     let m = t.months in
     let d = t.days_of in
-    let i : is_date (year (drop start bytes)) (month (drop start bytes)) (day (drop start bytes)) ≡ true = cc c.is-date.ensures in
-    let v : 10000 * c.in_ok-year.year + 100 * c.in_ok-month.month + c.in-ok-day.day ≡ 10000 * year (drop start bytes) + 100 * month (drop start bytes) + day (drop start bytes) = omega arith in
+    let i : is_date (year (drop start bytes)) (month (drop start bytes)) (day (drop start bytes)) ≡ true = cc c.is_date.ensures in
+    let v : 10000 * c.in_ok-year.year + 100 * c.in_ok-month.month + c.in_ok-day.day ≡ 10000 * year (drop start bytes) + 100 * month (drop start bytes) + day (drop start bytes) = omega arith in
     record {
       answer = ap (λ z. Ok (10, z)) (to_z-of_z w64 n fits ∙ c.number.ensures ∙ ap pos v) ∙ good_date (drop start bytes) (omega (arith, c.left.ensures)) t.form i;
-      place = omega (arith, c.drop-guard-2.ensures, c.in_ok-year.ensures.2, c.in_ok-take_byte.ensures.1, c.in_ok-month.ensures.2, c.in-ok-take-byte-2.ensures.1, c.in-ok-day.ensures.2);
+      place = omega (arith, c.drop-guard-2.ensures, c.in_ok-year.ensures.2, c.in_ok-take_byte.ensures.1, c.in_ok-month.ensures.2, c.in_ok-take_byte-2.ensures.1, c.in_ok-day.ensures.2);
     }
