@@ -47,7 +47,7 @@ returns c =
     let n = c.unsigned_abs-n.result in
     let e = c.args.out.now in
     let a : n ≡ nat_abs z = c.unsigned_abs-n.ensures.value ∙ ap nat_abs (to_z-of_z w64 z c.ranges.number) in
-    let d = digits z n _ p _ a c.unsigned_abs-n.ok c.scale.ensures c.width.ensures in
+    let d = digits z n _ p _ a c.unsigned_abs-n.type-inv c.scale.ensures c.width.ensures in
     let i = to_z-of_z w64 z c.ranges.number in
     let w1 : Wrote (minus_of z) e c.put-minus-at.new.out c.put-minus-at.result = record { len = c.put-minus-at.ensures.len ∙ ap (λ y. length (minus_of y)) i; after = c.put-minus-at.ensures.after ∙ ap (λ y. laid (minus_of y) e) i } in
     let w2 = wrote_more (padded c.width.result (n / c.scale.result)) _ _ w1 c.put-digits-after.ensures.len c.put-digits-after.ensures.after in

@@ -17,6 +17,6 @@ put-digits-requires c =
 
 pub returns : goal.returns
 returns c =
-    let d = digits c.args.number _ _ c.ranges.number c.unsigned_abs-n.ensures.value c.unsigned_abs-n.ok c.width.ensures in
+    let d = digits c.args.number _ _ c.ranges.number c.unsigned_abs-n.ensures.value c.unsigned_abs-n.type-inv c.width.ensures in
     let l = ap length d in
     record { len = omega (arith, c.put-digits.ensures.len); after = c.put-digits.ensures.after ∙ ap (λ w. laid w c.args.out.now) d }
