@@ -6,18 +6,18 @@ use Rattle.fields.specs.Amounts.{minus_of}
 use Rattle.fields.specs.AmountLaw.{pow_pos, length_amount}
 use Rattle.fields.proofs.amount.amount_length.Goals as goal
 
-pub nonzero-div-unsigned-abs : goal.nonzero-div-unsigned-abs
-nonzero-div-unsigned-abs c = omega (arith, pow_pos c.args.p)
+pub nonzero_div-unsigned_abs : goal.nonzero_div-unsigned_abs
+nonzero_div-unsigned_abs c = omega (arith, pow_pos c.args.p)
 
 -- a number of 64 bits has at most twenty digits
 few : (n s w : ℕ) → n < 2 ^ 64 → w ≡ length (decimal (n / s)) → w ≤ 20
 few n s w h e = let d = div-le_self n s in omega (arith, length-decimal-le 20 (n / s) (omega arith) (omega arith) (omega arith))
 
-pub overflow-add-result : goal.overflow-add-result
-overflow-add-result c = omega (arith, c.sign-length.ensures.few, few _ _ _ c.unsigned-abs.type-inv c.width.ensures)
+pub overflow_add-result : goal.overflow_add-result
+overflow_add-result c = omega (arith, c.sign_length.ensures.few, few _ _ _ c.unsigned_abs.type_inv c.width.ensures)
 
-pub overflow-add-result-2 : goal.overflow-add-result-2
-overflow-add-result-2 c = omega (arith, c.sign-length.ensures.few, few _ _ _ c.unsigned-abs.type-inv c.width.ensures, c.point-length.ensures.few)
+pub overflow_add-result-2 : goal.overflow_add-result-2
+overflow_add-result-2 c = omega (arith, c.sign_length.ensures.few, few _ _ _ c.unsigned_abs.type_inv c.width.ensures, c.point_length.ensures.few)
 
 pub returns : goal.returns
 returns c =

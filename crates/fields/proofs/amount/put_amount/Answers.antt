@@ -16,29 +16,29 @@ digits z n s p w e h t k = ap (λ j. padded j (n / s)) k ∙ padded_decimal (n /
 lengths : (a b c : List ℕ) → length (a ++ (b ++ c)) ≡ length a + (length b + length c)
 lengths a b c = length-append a (b ++ c) ∙ ap (λ k. length a + k) (length-append b c)
 
-pub nonzero-div-front : goal.nonzero-div-front
-nonzero-div-front c = omega (arith, pow_pos c.args.p)
+pub nonzero_div-front : goal.nonzero_div-front
+nonzero_div-front c = omega (arith, pow_pos c.args.p)
 
-pub put-digits-after-requires : goal.put-digits-after-requires
-put-digits-after-requires c =
+pub put_digits-after-requires : goal.put_digits-after-requires
+put_digits-after-requires c =
     let z = c.args.number in
     let p = c.args.p in
-    let a : c.unsigned-abs-n.result ≡ nat_abs z = c.unsigned-abs-n.ensures.value ∙ ap nat_abs (to_z-of_z w64 z c.ranges.number) in
+    let a : c.unsigned_abs-n.result ≡ nat_abs z = c.unsigned_abs-n.ensures.value ∙ ap nat_abs (to_z-of_z w64 z c.ranges.number) in
     let i = to_z-of_z w64 z c.ranges.number in
     let m = ap (λ y. length (minus_of y)) i in
-    let l = ap length (digits z _ _ p _ a c.unsigned-abs-n.type-inv c.scale.ensures c.width.ensures) in
-    omega (arith, lengths (minus_of z) (decimal (nat_abs z / 10 ^ p)) (point_of p (nat_abs z)), c.requires.1, c.put-minus-at.ensures.len)
+    let l = ap length (digits z _ _ p _ a c.unsigned_abs-n.type_inv c.scale.ensures c.width.ensures) in
+    omega (arith, lengths (minus_of z) (decimal (nat_abs z / 10 ^ p)) (point_of p (nat_abs z)), c.requires.1, c.put_minus-at.ensures.len)
 
-pub put-point-requires : goal.put-point-requires
-put-point-requires c =
+pub put_point-requires : goal.put_point-requires
+put_point-requires c =
     let z = c.args.number in
     let p = c.args.p in
-    let a : c.unsigned-abs-n.result ≡ nat_abs z = c.unsigned-abs-n.ensures.value ∙ ap nat_abs (to_z-of_z w64 z c.ranges.number) in
+    let a : c.unsigned_abs-n.result ≡ nat_abs z = c.unsigned_abs-n.ensures.value ∙ ap nat_abs (to_z-of_z w64 z c.ranges.number) in
     let i = to_z-of_z w64 z c.ranges.number in
     let m = ap (λ y. length (minus_of y)) i in
-    let l = ap length (digits z _ _ p _ a c.unsigned-abs-n.type-inv c.scale.ensures c.width.ensures) in
+    let l = ap length (digits z _ _ p _ a c.unsigned_abs-n.type_inv c.scale.ensures c.width.ensures) in
     let q = ap (λ m. length (point_of p m)) a in
-    (c.requires.0, omega (arith, lengths (minus_of z) (decimal (nat_abs z / 10 ^ p)) (point_of p (nat_abs z)), c.requires.1, c.put-minus-at.ensures.len, c.put-digits-after.ensures.len))
+    (c.requires.0, omega (arith, lengths (minus_of z) (decimal (nat_abs z / 10 ^ p)) (point_of p (nat_abs z)), c.requires.1, c.put_minus-at.ensures.len, c.put_digits-after.ensures.len))
 
 pub returns : goal.returns
 returns c =
@@ -47,11 +47,11 @@ returns c =
     let n = c.unsigned_abs-n.result in
     let e = c.args.out.now in
     let a : n ≡ nat_abs z = c.unsigned_abs-n.ensures.value ∙ ap nat_abs (to_z-of_z w64 z c.ranges.number) in
-    let d = digits z n _ p _ a c.unsigned_abs-n.type-inv c.scale.ensures c.width.ensures in
+    let d = digits z n _ p _ a c.unsigned_abs-n.type_inv c.scale.ensures c.width.ensures in
     let i = to_z-of_z w64 z c.ranges.number in
-    let w1 : Wrote (minus_of z) e c.put-minus-at.new.out c.put-minus-at.result = record { len = c.put-minus-at.ensures.len ∙ ap (λ y. length (minus_of y)) i; after = c.put-minus-at.ensures.after ∙ ap (λ y. laid (minus_of y) e) i } in
-    let w2 = wrote_more (padded c.width.result (n / c.scale.result)) _ _ w1 c.put-digits-after.ensures.len c.put-digits-after.ensures.after in
-    let w3 = wrote_more (point_of p n) _ _ w2 c.put-point.ensures.len c.put-point.ensures.after in
+    let w1 : Wrote (minus_of z) e c.put_minus-at.new.out c.put_minus-at.result = record { len = c.put_minus-at.ensures.len ∙ ap (λ y. length (minus_of y)) i; after = c.put_minus-at.ensures.after ∙ ap (λ y. laid (minus_of y) e) i } in
+    let w2 = wrote_more (padded c.width.result (n / c.scale.result)) _ _ w1 c.put_digits-after.ensures.len c.put_digits-after.ensures.after in
+    let w3 = wrote_more (point_of p n) _ _ w2 c.put_point.ensures.len c.put_point.ensures.after in
     let s : (minus_of z ++ padded c.width.result (n / c.scale.result)) ++ point_of p n ≡ minus_of z ++ (decimal (nat_abs z / 10 ^ p) ++ point_of p (nat_abs z)) =
     append_assoc (minus_of z) _ (point_of p n) ∙ ap (λ x. minus_of z ++ (x ++ point_of p n)) d ∙ ap (λ m. minus_of z ++ (decimal (nat_abs z / 10 ^ p) ++ point_of p m)) a in
     record { len = w3.len ∙ ap length s; after = w3.after ∙ ap (λ x. laid x e) s }

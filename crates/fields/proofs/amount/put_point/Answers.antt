@@ -19,8 +19,8 @@ point (suc p) n h = refl
 pub returns-then-p-eq0 : goal.returns-then-p-eq0
 returns-then-p-eq0 c = let e = none c.args.p c.args.n c.args.at c.args.out.now c.if-p-eq0.true in record { len = e.0; after = e.1 }
 
-pub nonzero-rem-n : goal.nonzero-rem-n
-nonzero-rem-n c = omega (arith, pow_pos c.args.p)
+pub nonzero_rem-n : goal.nonzero_rem-n
+nonzero_rem-n c = omega (arith, pow_pos c.args.p)
 
 pub returns : goal.returns
 returns c =

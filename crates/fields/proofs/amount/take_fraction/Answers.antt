@@ -11,13 +11,13 @@ returns-then-p-eq0 c =
     let n = point_none c.args.p (drop c.args.cursor.now.place c.args.bytes.now) c.if-p-eq0.true in
     (n.0, n.1, omega (arith, n.2))
 
-pub returns-then-skip-run-p : goal.returns-then-skip-run-p
-returns-then-skip-run-p c =
+pub returns-then-skip_run-p : goal.returns-then-skip_run-p
+returns-then-skip_run-p c =
     let bytes = c.args.bytes.now in
     let at = c.args.cursor.now.place in
-    let b = c.in-ok-take-byte.ensures in
-    let r = c.skip-run.ensures.is ∙ ap run (part_at bytes at 1 _ b.1) in
-    (refl, sym (point_is c.args.p _ (drop at bytes) c.if-p-eq0.false b.0 r) ∙ ne_eqb _ _ c.if-skip-run-p.true)
+    let b = c.in_ok-take_byte.ensures in
+    let r = c.skip_run.ensures.is ∙ ap run (part_at bytes at 1 _ b.1) in
+    (refl, sym (point_is c.args.p _ (drop at bytes) c.if-p-eq0.false b.0 r) ∙ ne_eqb _ _ c.if-skip_run-p.true)
 
 pub returns : goal.returns
 returns c =

@@ -12,11 +12,11 @@ three n i len h k l =
     let t : 256 ^ i ≤ 256 ^ 3 = pow-le-pow_right {n = 256} (omega arith) s in
     omega arith
 
-pub overflow-mul-n : goal.overflow-mul-n
-overflow-mul-n c = let f = three c.loop-b.n c.loop-b.b-index _ c.loop-b.invariant.2 c.requires c.loop-b-test.true in omega arith
+pub overflow_mul-n : goal.overflow_mul-n
+overflow_mul-n c = let f = three c.loop-b.n c.loop-b.b-index _ c.loop-b.invariant.2 c.requires c.loop-b-test.true in omega arith
 
-pub overflow-add-n : goal.overflow-add-n
-overflow-add-n c = let f = three c.loop-b.n c.loop-b.b-index _ c.loop-b.invariant.2 c.requires c.loop-b-test.true in omega arith
+pub overflow_add-n : goal.overflow_add-n
+overflow_add-n c = let f = three c.loop-b.n c.loop-b.b-index _ c.loop-b.invariant.2 c.requires c.loop-b-test.true in omega arith
 
 pub loop-b-preserved : goal.loop-b-preserved
 loop-b-preserved c =

@@ -20,60 +20,60 @@ returns-then-left-lt10 c = record { answer = let bs = drop c.args.cursor.now.pla
 wrong : (bs : List ℕ) (start at : ℕ) (r : Reading) (x e : Cause) → r ≡ Err x → x ≡ e → e ≡ Form → at ≡ start → 10 ≤ length bs → formed bs ≡ false → (r ≡ date.reads bs) × (at ≡ moved start r)
 wrong bs start at r x e h k l p long f = (h ∙ ap Err (k ∙ l) ∙ no_form bs long f, p ∙ sym (ap (moved start) h))
 
-pub returns-in-err-take-byte : goal.returns-in-err-take-byte
-returns-in-err-take-byte c =
+pub returns-in_err-take_byte : goal.returns-in_err-take_byte
+returns-in_err-take_byte c =
     let bytes = c.args.bytes.now in
     let start = c.args.cursor.now.place in
-    let p = err_from_is_err_and c.from-residual-in-err-take-byte.result c.from-residual-in-err-take-byte.ensures.1 in
-    let e = c.in-err-take-byte.ensures in
-    let f : formed (drop start bytes) ≡ false = not_formed (drop start bytes) (λ t. e.1 (byte_at bytes start 4 _ c.in-ok-year.ensures.2 ∙ t.first)) in
-    let w = wrong (drop start bytes) start _ _ _ _ p.1 p.2 e.0 c.drop-guard-in-err-take-byte.ensures (omega (arith, c.left.ensures)) f in
+    let p = err_from_is_err_and c.from-residual-in_err-take_byte.result c.from-residual-in_err-take_byte.ensures.1 in
+    let e = c.in_err-take_byte.ensures in
+    let f : formed (drop start bytes) ≡ false = not_formed (drop start bytes) (λ t. e.1 (byte_at bytes start 4 _ c.in_ok-year.ensures.2 ∙ t.first)) in
+    let w = wrong (drop start bytes) start _ _ _ _ p.1 p.2 e.0 c.drop_guard-in_err-take_byte.ensures (omega (arith, c.left.ensures)) f in
     record { answer = w.0; place = w.1 }
 
-pub returns-in-err-month : goal.returns-in-err-month
-returns-in-err-month c =
+pub returns-in_err-month : goal.returns-in_err-month
+returns-in_err-month c =
     let bytes = c.args.bytes.now in
     let start = c.args.cursor.now.place in
-    let p = err_from_is_err_and c.from-residual-in-err-month.result c.from-residual-in-err-month.ensures.1 in
-    let e = c.in-err-month.ensures in
-    let at : c.take-byte.new.self.place ≡ start + 5 = omega (arith, c.in-ok-year.ensures.2, c.in-ok-take-byte.ensures.1) in
+    let p = err_from_is_err_and c.from-residual-in_err-month.result c.from-residual-in_err-month.ensures.1 in
+    let e = c.in_err-month.ensures in
+    let at : c.take_byte.new.self.place ≡ start + 5 = omega (arith, c.in_ok-year.ensures.2, c.in_ok-take_byte.ensures.1) in
     let f : formed (drop start bytes) ≡ false = not_formed (drop start bytes) (λ t. omega (arith, leb-false 2 _ (sym (all_at_lem bytes start 5 2 _ at) ∙ e.1), t.months.many)) in
-    let w = wrong (drop start bytes) start _ _ _ _ p.1 p.2 e.0 c.drop-guard-in-err-month.ensures (omega (arith, c.left.ensures)) f in
+    let w = wrong (drop start bytes) start _ _ _ _ p.1 p.2 e.0 c.drop_guard-in_err-month.ensures (omega (arith, c.left.ensures)) f in
     record { answer = w.0; place = w.1 }
 
-pub returns-in-err-take-byte-2 : goal.returns-in-err-take-byte-2
-returns-in-err-take-byte-2 c =
+pub returns-in_err-take_byte-2 : goal.returns-in_err-take_byte-2
+returns-in_err-take_byte-2 c =
     let bytes = c.args.bytes.now in
     let start = c.args.cursor.now.place in
-    let p = err_from_is_err_and c.from-residual-in-err-take-byte-2.result c.from-residual-in-err-take-byte-2.ensures.1 in
-    let e = c.in-err-take-byte-2.ensures in
-    let at : c.take-digits-2.new.self.place ≡ start + 7 = omega (arith, c.in-ok-year.ensures.2, c.in-ok-take-byte.ensures.1, c.in-ok-month.ensures.2) in
+    let p = err_from_is_err_and c.from-residual-in_err-take_byte-2.result c.from-residual-in_err-take_byte-2.ensures.1 in
+    let e = c.in_err-take_byte-2.ensures in
+    let at : c.take_digits-2.new.self.place ≡ start + 7 = omega (arith, c.in_ok-year.ensures.2, c.in_ok-take_byte.ensures.1, c.in_ok-month.ensures.2) in
     let f : formed (drop start bytes) ≡ false = not_formed (drop start bytes) (λ t. e.1 (byte_at bytes start 7 _ at ∙ t.second)) in
-    let w = wrong (drop start bytes) start _ _ _ _ p.1 p.2 e.0 c.drop-guard-in-err-take-byte-2.ensures (omega (arith, c.left.ensures)) f in
+    let w = wrong (drop start bytes) start _ _ _ _ p.1 p.2 e.0 c.drop_guard-in_err-take_byte-2.ensures (omega (arith, c.left.ensures)) f in
     record { answer = w.0; place = w.1 }
 
-pub returns-in-err-day : goal.returns-in-err-day
-returns-in-err-day c =
+pub returns-in_err-day : goal.returns-in_err-day
+returns-in_err-day c =
     let bytes = c.args.bytes.now in
     let start = c.args.cursor.now.place in
-    let p = err_from_is_err_and c.from-residual-in-err-day.result c.from-residual-in-err-day.ensures.1 in
-    let e = c.in-err-day.ensures in
-    let at : c.take-byte-2.new.self.place ≡ start + 8 =
-    omega (arith, c.in-ok-year.ensures.2, c.in-ok-take-byte.ensures.1, c.in-ok-month.ensures.2, c.in-ok-take-byte-2.ensures.1) in
+    let p = err_from_is_err_and c.from-residual-in_err-day.result c.from-residual-in_err-day.ensures.1 in
+    let e = c.in_err-day.ensures in
+    let at : c.take_byte-2.new.self.place ≡ start + 8 =
+    omega (arith, c.in_ok-year.ensures.2, c.in_ok-take_byte.ensures.1, c.in_ok-month.ensures.2, c.in_ok-take_byte-2.ensures.1) in
     let f : formed (drop start bytes) ≡ false = not_formed (drop start bytes) (λ t. omega (arith, leb-false 2 _ (sym (all_at_lem bytes start 8 2 _ at) ∙ e.1), t.days_of.many)) in
-    let w = wrong (drop start bytes) start _ _ _ _ p.1 p.2 e.0 c.drop-guard-in-err-day.ensures (omega (arith, c.left.ensures)) f in
+    let w = wrong (drop start bytes) start _ _ _ _ p.1 p.2 e.0 c.drop_guard-in_err-day.ensures (omega (arith, c.left.ensures)) f in
     record { answer = w.0; place = w.1 }
 
-pub returns-then-not-is-date : goal.returns-then-not-is-date
-returns-then-not-is-date c =
+pub returns-then-not-is_date : goal.returns-then-not-is_date
+returns-then-not-is_date c =
     let bytes = c.args.bytes.now in
     let start = c.args.cursor.now.place in
-    let t = parts_at_lem bytes start _ _ _ _ _ _ _ c.in-ok-year.ensures c.in-ok-take-byte.ensures c.in-ok-month.ensures c.in-ok-take-byte-2.ensures (c.in-ok-day.ensures.0, c.in-ok-day.ensures.1) in
+    let t = parts_at_lem bytes start _ _ _ _ _ _ _ c.in_ok-year.ensures c.in_ok-take_byte.ensures c.in_ok-month.ensures c.in_ok-take_byte-2.ensures (c.in_ok-day.ensures.0, c.in_ok-day.ensures.1) in
     let y = t.years in
     let m = t.months in
     let d = t.days_of in
-    let i : is_date (year (drop start bytes)) (month (drop start bytes)) (day (drop start bytes)) ≡ false = cc c.is-date.ensures in
-    record { answer = no_date (drop start bytes) (omega (arith, c.left.ensures)) t.form i; place = c.drop-guard-then-not-is-date.ensures }
+    let i : is_date (year (drop start bytes)) (month (drop start bytes)) (day (drop start bytes)) ≡ false = cc c.is_date.ensures in
+    record { answer = no_date (drop start bytes) (omega (arith, c.left.ensures)) t.form i; place = c.drop_guard-then-not-is_date.ensures }
 
 pub returns : goal.returns
 returns c =
@@ -89,5 +89,5 @@ returns c =
     let v : 10000 * c.in_ok-year.year + 100 * c.in_ok-month.month + c.in_ok-day.day ≡ 10000 * year (drop start bytes) + 100 * month (drop start bytes) + day (drop start bytes) = omega arith in
     record {
       answer = ap (λ z. Ok (10, z)) (to_z-of_z w64 n fits ∙ c.number.ensures ∙ ap pos v) ∙ good_date (drop start bytes) (omega (arith, c.left.ensures)) t.form i;
-      place = omega (arith, c.drop-guard-2.ensures, c.in_ok-year.ensures.2, c.in_ok-take_byte.ensures.1, c.in_ok-month.ensures.2, c.in_ok-take_byte-2.ensures.1, c.in_ok-day.ensures.2);
+      place = omega (arith, c.drop_guard-2.ensures, c.in_ok-year.ensures.2, c.in_ok-take_byte.ensures.1, c.in_ok-month.ensures.2, c.in_ok-take_byte-2.ensures.1, c.in_ok-day.ensures.2);
     }

@@ -4,8 +4,8 @@ use Rattle.std.proofs.lemmas.List.{length_push}
 use Rattle.std.proofs.lemmas.Fmt.{decimal_step, decimal_digit, length-decimal-le}
 use Rattle.fields.proofs.digits.width.Goals as goal
 
-pub overflow-add-w : goal.overflow-add-w
-overflow-add-w c = omega (arith, length-decimal-le 20 c.args.n (omega arith) (omega arith) (omega arith), c.loop-left.invariant.1)
+pub overflow_add-w : goal.overflow_add-w
+overflow_add-w c = omega (arith, length-decimal-le 20 c.args.n (omega arith) (omega arith) (omega arith), c.loop-left.invariant.1)
 
 pub loop-left-preserved : goal.loop-left-preserved
 loop-left-preserved c =

@@ -10,13 +10,13 @@ use Rattle.fields.proofs.whole.put_whole.Goals as goal
 digits : (z : ℤ) (n w : ℕ) → SFits w64 z → n ≡ nat_abs (to_z w64 (of_z w64 z)) → n < 2 ^ 64 → w ≡ length (decimal n) → padded w n ≡ decimal (nat_abs z)
 digits z n w f e h k = ap (λ j. padded j n) k ∙ padded_decimal n h ∙ ap decimal (e ∙ ap nat_abs (to_z-of_z w64 z f))
 
-pub put-digits-requires : goal.put-digits-requires
-put-digits-requires c =
-    let l = ap length (digits c.args.number _ _ c.ranges.number c.unsigned-abs-n.ensures.value c.unsigned-abs-n.type-inv c.width.ensures) in
+pub put_digits-requires : goal.put_digits-requires
+put_digits-requires c =
+    let l = ap length (digits c.args.number _ _ c.ranges.number c.unsigned_abs-n.ensures.value c.unsigned_abs-n.type_inv c.width.ensures) in
     omega arith
 
 pub returns : goal.returns
 returns c =
-    let d = digits c.args.number _ _ c.ranges.number c.unsigned_abs-n.ensures.value c.unsigned_abs-n.type-inv c.width.ensures in
+    let d = digits c.args.number _ _ c.ranges.number c.unsigned_abs-n.ensures.value c.unsigned_abs-n.type_inv c.width.ensures in
     let l = ap length d in
-    record { len = omega (arith, c.put-digits.ensures.len); after = c.put-digits.ensures.after ∙ ap (λ w. laid w c.args.out.now) d }
+    record { len = omega (arith, c.put_digits.ensures.len); after = c.put_digits.ensures.after ∙ ap (λ w. laid w c.args.out.now) d }
