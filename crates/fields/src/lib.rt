@@ -1,4 +1,6 @@
 // Field families: what the kinds of a layout mean on the bytes of a row, how they are read and how they are spelled.
+#![tactic(auto)]
+
 mod amount;
 pub mod ascii;
 pub mod binary;

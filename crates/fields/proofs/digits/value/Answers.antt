@@ -20,19 +20,19 @@ front bs at i len h k l =
     record { small = value_take i 11 (drop at bs) (omega arith) (omega arith); low = omega (arith, d.0); high = omega (arith, d.1); within = omega (arith, run_le (drop at bs), length-drop at bs); same = e }
 
 pub overflow_mul-n : goal.overflow_mul-n
-overflow_mul-n c = let f = front c.args.bytes.now c.args.at c.loop-i.i c.args.len c.requires.0 c.requires.1 c.loop-i-test.true in omega (arith, c.loop-i.invariant)
+overflow_mul-n c = let f = front c.args.bytes.now c.args.at c.loop-i.i c.args.len c.requires.len_bound c.requires.len_bound_2 c.loop-i-test.true in omega (arith, c.loop-i.invariant)
 
 pub overflow_add-n : goal.overflow_add-n
-overflow_add-n c = let f = front c.args.bytes.now c.args.at c.loop-i.i c.args.len c.requires.0 c.requires.1 c.loop-i-test.true in search rules
+overflow_add-n c = let f = front c.args.bytes.now c.args.at c.loop-i.i c.args.len c.requires.len_bound c.requires.len_bound_2 c.loop-i-test.true in search rules
 
 pub bounds-bytes-at : goal.bounds-bytes-at
 bounds-bytes-at c = let f = front c.args.bytes.now c.args.at c.loop-i.i c.args.len c.requires.len_bound c.requires.len_bound_2 c.loop-i-test.true in search rules
 
 pub overflow_sub-n : goal.overflow_sub-n
-overflow_sub-n c = let f = front c.args.bytes.now c.args.at c.loop-i.i c.args.len c.requires.0 c.requires.1 c.loop-i-test.true in omega arith
+overflow_sub-n c = let f = front c.args.bytes.now c.args.at c.loop-i.i c.args.len c.requires.len_bound c.requires.len_bound_2 c.loop-i-test.true in omega arith
 
 pub overflow_add-n-in-loop-i : goal.overflow_add-n-in-loop-i
-overflow_add-n-in-loop-i c = let f = front c.args.bytes.now c.args.at c.loop-i.i c.args.len c.requires.0 c.requires.1 c.loop-i-test.true in omega (arith, c.loop-i.invariant)
+overflow_add-n-in-loop-i c = let f = front c.args.bytes.now c.args.at c.loop-i.i c.args.len c.requires.len_bound c.requires.len_bound_2 c.loop-i-test.true in omega (arith, c.loop-i.invariant)
 
 pub loop-i-preserved : goal.loop-i-preserved
 loop-i-preserved c =
