@@ -26,7 +26,7 @@ pub returns-in-UnknownKind : goal.returns-in-UnknownKind
 returns-in-UnknownKind c = subst (λ (p : Problem). IfOk c.format-in-UnknownKind.result (λ s. string_bytes s ≡ problem_line p)) (sym c.in-UnknownKind.is) (search rules)
 
 pub returns-in-Refused : goal.returns-in-Refused
-returns-in-Refused c = subst (λ (p : Problem). IfOk c.refusal-text.result (λ s. string_bytes s ≡ problem_line p)) (sym c.in-Refused.is) (search rules)
+returns-in-Refused c = subst (λ (p : Problem). IfOk c.refusal_text.result (λ s. string_bytes s ≡ problem_line p)) (sym c.in-Refused.is) (search rules)
 
 pub returns-in-Unreadable : goal.returns-in-Unreadable
 returns-in-Unreadable c = subst (λ (p : Problem). IfOk c.format-in-Unreadable.result (λ s. string_bytes s ≡ problem_line p)) (sym c.in-Unreadable.is) (search rules)

@@ -7,4 +7,4 @@ pub returns : goal.returns
 returns c =
     let what = c.args.what.now in
     subst (λ (n : ℕ). IfOk c.format.result (λ s. string_bytes s ≡ refused_line n (reason c.args.refusal) what)) c.number-number.ensures
-    (subst (λ (r : List ℕ). IfOk c.format.result (λ s. string_bytes s ≡ refused_line c.number-number.result r what)) c.reason-text-reason.ensures (search rules))
+    (subst (λ (r : List ℕ). IfOk c.format.result (λ s. string_bytes s ≡ refused_line c.number-number.result r what)) c.reason_text-reason.ensures (search rules))

@@ -7,4 +7,4 @@ pub returns : goal.returns
 returns c =
     let name = c.args.name.now in
     subst (λ (n : ℕ). IfOk c.format.result (λ s. string_bytes s ≡ told_cause name n (cause_word c.args.cause))) c.number-number.ensures
-    (subst (λ (w : List ℕ). IfOk c.format.result (λ s. string_bytes s ≡ told_cause name c.number-number.result w)) c.cause-words-why.ensures (search rules))
+    (subst (λ (w : List ℕ). IfOk c.format.result (λ s. string_bytes s ≡ told_cause name c.number-number.result w)) c.cause_words-why.ensures (search rules))

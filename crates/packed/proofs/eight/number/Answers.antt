@@ -4,4 +4,4 @@ use Rattle.packed.proofs.EightBytes.{big_eight}
 use Rattle.packed.proofs.eight.number.Goals as goal
 
 pub returns : goal.returns
-returns c = c.from-be-bytes.ensures ∙ big_eight c.args.eight.now c.told-eight
+returns c = c.from_be_bytes.ensures ∙ big_eight c.args.eight.now c.told-eight

@@ -11,7 +11,7 @@ loop-i-preserved g c =
     let i = c.loop-i.i in
     let r = c.unpack.result in
     let long = length_records decode bytes in
-    let e = record_at decode bytes c.as-chunks.result.0.now i r c.as-chunks.ensures.front (omega arith) c.unpack.ensures in
+    let e = record_at decode bytes c.as_chunks.result.0.now i r c.as_chunks.ensures.front (omega arith) c.unpack.ensures in
     (omega arith, ap (λ x. set x i r) c.loop-i.invariant.1 ∙ loaded_more (records decode bytes) c.args.out.now i r (omega arith) (omega arith) e)
 
 pub returns : goal.returns

@@ -10,7 +10,7 @@ pub returns : goal.returns
 returns g c =
     let f = c.args.file.now in
     let cut : Cut = (g.R.RowRule.means c.args.rule).cut f in
-    let set = c.in-ok-set-on.ensures in
+    let set = c.in_ok-set_on.ensures in
     let small : length f < 18446744073709551616 = omega arith in
     let few : length cut.rows < 18446744073709551616 = omega (arith, set.laws.few) in
     ap (λ x. lines_left Rows 0 false x (length f)) set.after ∙ whole_listing cut (length f) few

@@ -7,6 +7,6 @@ use Rattle.layout.proofs.faults.IllLinked.leads_astray.Goals as goal
 
 pub returns : goal.returns
 returns c =
-    c.is-no-link.ensures
+    c.is_no_link.ensures
     ∙ ap (astray _ c.args.number) c.from.ensures
     ∙ ap (λ n. astray n c.args.number c.args.link) (sym (length-map c.args.self.now.nodes.now link_in))

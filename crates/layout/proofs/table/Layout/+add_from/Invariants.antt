@@ -3,5 +3,5 @@ use Rattle.std.proofs.Common.{length, vec_items}
 use Rattle.layout.proofs.LoadLaws.{left_from}
 use Rattle.layout.proofs.table.Layout.+add_from.Given as goal
 
-abbrev pub decreases-add-from : goal.decreases-add-from
-decreases-add-from l = left_from (length (vec_items l.self.now.nodes)) l.number
+abbrev pub decreases-add_from : goal.decreases-add_from
+decreases-add_from l = left_from (length (vec_items l.self.now.nodes)) l.number

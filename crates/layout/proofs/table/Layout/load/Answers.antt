@@ -14,12 +14,12 @@ use Rattle.layout.proofs.table.Layout.load.Goals as goal
 layout_tree : (l : Layout) → TreeOf 16 (vec_items l.nodes) (vec_items l.constants)
 layout_tree l = sound_tree 16 (vec_items l.nodes) (vec_items l.constants) (omega (arith, l.few.0, l.nodes.ok.0)) l.hangs
 
-pub returns-in-default : goal.returns-in-default
-returns-in-default g c =
+pub returns-in_default : goal.returns-in_default
+returns-in_default g c =
     let bytes = c.args.bytes.now in
     let sorts = λ (kind p : ℕ). (g.F.Family.means c.args.family.now kind p).sort in
     record {
-      value = sym (ap (λ b. answer (or_else b Size (judged limits sorts (constant_count bytes) (records_in bytes)))) c.in-default.ensures);
+      value = sym (ap (λ b. answer (or_else b Size (judged limits sorts (constant_count bytes) (records_in bytes)))) c.in_default.ensures);
       after = refl;
       tree = layout_tree c.args.self.now;
       depth = tt;
@@ -31,14 +31,14 @@ returns g c =
     let sorts = λ (kind p : ℕ). (g.F.Family.means c.args.family.now kind p).sort in
     let header = c.in-Some.header in
     let sized = c.in-Some.ensures in
-    let value = c.load-records.ensures.value in
+    let value = c.load_records.ensures.value in
     record {
       value = value;
-      after = when_accepted _ (refusal sorts bytes) _ _ _ value c.load-records.ensures.after (λ e h. record {
+      after = when_accepted _ (refusal sorts bytes) _ _ _ value c.load_records.ensures.after (λ e h. record {
         nodes_are = h.0;
         constants_are = h.1;
         known = subst (Known sorts) (sym h.0) (accepted_known sorts bytes header.nodes header.constants sized e);
       });
-      tree = layout_tree c.load-records.new.self;
+      tree = layout_tree c.load_records.new.self;
       depth = subst (DepthTold bytes) (sym value) (depth_told sorts bytes header.nodes header.constants sized);
     }

@@ -24,21 +24,21 @@ returns-in-Some g c =
       after = refl;
     }
 
-pub invariant-of-self : goal.invariant-of-self
-invariant-of-self g c =
+pub invariant_of-self : goal.invariant_of-self
+invariant_of-self g c =
     let bytes = c.args.bytes.now in
     let n = c.args.header.nodes in
     let k = c.args.header.constants in
     let sorts = λ (kind p : ℕ). (g.F.Family.means c.args.family.now kind p).sort in
-    let nodes = c.put-nodes.new.out in
-    let constants = c.put-constants.new.out in
+    let nodes = c.put_nodes.new.out in
+    let constants = c.put_constants.new.out in
     let rs = c.load.ensures.after ∙ records_are bytes n k c.requires.sized c.args.records.now c.requires.room in
-    let accepted = sym (c.in-default.ensures ∙ ap (judged limits sorts k) rs) in
-    let nodes_are = c.put-nodes.ensures.items ∙ ap (map node_of) rs in
-    let constants-are' = c.put-constants.ensures.items ∙ ap (records constant_of) (take_rest bytes (2 + 8 * n)) ∙ constants_are bytes n k c.requires.sized in
+    let accepted = sym (c.in_default.ensures ∙ ap (judged limits sorts k) rs) in
+    let nodes_are = c.put_nodes.ensures.items ∙ ap (map node_of) rs in
+    let constants-are' = c.put_constants.ensures.items ∙ ap (records constant_of) (take_rest bytes (2 + 8 * n)) ∙ constants_are bytes n k c.requires.sized in
     let count : vec_len nodes ≡ n = nodes.ok.0 ∙ ap length nodes_are ∙ length-map (records_in bytes) node_of ∙ records_count bytes n k c.requires.sized in
     let constant-count : vec_len constants ≡ k = constants.ok.0 ∙ ap length constants-are' ∙ constants_count bytes n k c.requires.sized in
-    let room : (200 ≤ vec_capacity nodes) × (64 ≤ vec_capacity constants) = (omega (arith, c.put-nodes.ensures.capacity, c.args.self.now.room.0), omega (arith, c.put-constants.ensures.capacity, c.args.self.now.room.1)) in
+    let room : (200 ≤ vec_capacity nodes) × (64 ≤ vec_capacity constants) = (omega (arith, c.put_nodes.ensures.capacity, c.args.self.now.room.0), omega (arith, c.put_constants.ensures.capacity, c.args.self.now.room.1)) in
     let hangs = ap (λ ns. hang_ill 16 (links ns)) nodes_are ∙ nodes_hang sorts k (records_in bytes) accepted in
     let placed =
     ap (λ m. any_node (λ i (q : Node). misplaced 32 m q.shape) (vec_items nodes)) constant-count
@@ -54,6 +54,6 @@ returns g c =
     let sorts = λ (kind p : ℕ). (g.F.Family.means c.args.family.now kind p).sort in
     let rs = c.load.ensures.after ∙ records_are bytes n k c.requires.sized c.args.records.now c.requires.room in
     record {
-      value = ap answer (c.in-default.ensures ∙ ap (judged limits sorts k) rs ∙ judged_file bytes n k c.requires.sized sorts);
-      after = (c.put-nodes.ensures.items ∙ ap (map node_of) rs, c.put-constants.ensures.items ∙ ap (records constant_of) (take_rest bytes (2 + 8 * n)) ∙ constants_are bytes n k c.requires.sized);
+      value = ap answer (c.in_default.ensures ∙ ap (judged limits sorts k) rs ∙ judged_file bytes n k c.requires.sized sorts);
+      after = (c.put_nodes.ensures.items ∙ ap (map node_of) rs, c.put_constants.ensures.items ∙ ap (records constant_of) (take_rest bytes (2 + 8 * n)) ∙ constants_are bytes n k c.requires.sized);
     }

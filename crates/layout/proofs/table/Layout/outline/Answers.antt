@@ -11,7 +11,7 @@ returns c =
     let l = c.args.self.now in
     let nodes = vec_items l.nodes in
     let constants = vec_items l.constants in
-    c.in-ok-add-from.ensures
+    c.in_ok-add_from.ensures
     ∙ ap (λ es. es ++ outline_of 1 (parts_at nodes constants 1)) c.new-out.ensures.items
     ∙ ap (outline_of 1) (root_alone nodes constants (sound_rising 16 nodes l.hangs) (omega (arith, l.few.0, l.nodes.ok.0)))
     ∙ append-nil (outline 1 (tree_of nodes constants))

@@ -12,8 +12,8 @@ returns c =
     let out = c.args.numbers.now in
     let numbers-are = c.load.ensures.after ∙ loaded_exact constant_of bs out c.requires.fit in
     let long = ap length numbers-are ∙ length_exact constant_of bs out c.requires.fit in
-    let ok = c.extend-from-slice.ensures.succeeds (omega (arith, c.clear.ensures.len, c.clear.ensures.capacity, c.requires.room)) in
+    let ok = c.extend_from_slice.ensures.succeeds (omega (arith, c.clear.ensures.len, c.clear.ensures.capacity, c.requires.room)) in
     record {
-      items = refilled c.extend-from-slice.ensures.items ok c.clear.ensures.items numbers-are;
-      capacity = omega (arith, c.extend-from-slice.ensures.capacity, c.clear.ensures.capacity);
+      items = refilled c.extend_from_slice.ensures.items ok c.clear.ensures.items numbers-are;
+      capacity = omega (arith, c.extend_from_slice.ensures.capacity, c.clear.ensures.capacity);
     }

@@ -9,9 +9,9 @@ pub loop-record-preserved : goal.loop-record-preserved
 loop-record-preserved c =
     let rs = c.args.records.now in
     let i = c.loop-record.record-index in (
-      nodes_more rs i c.push-reserved.ensures.items c.loop-record.invariant.0 c.node-of.ensures c.loop-record-test.true,
-      omega (arith, c.push-reserved.ensures.len, c.loop-record.invariant.1),
-      c.push-reserved.ensures.capacity ∙ c.loop-record.invariant.2,
+      nodes_more rs i c.push_reserved.ensures.items c.loop-record.invariant.0 c.node_of.ensures c.loop-record-test.true,
+      omega (arith, c.push_reserved.ensures.len, c.loop-record.invariant.1),
+      c.push_reserved.ensures.capacity ∙ c.loop-record.invariant.2,
     )
 
 pub returns : goal.returns
