@@ -1,4 +1,6 @@
 // The words of the program `neskvaru`: what its options mean, and the lines that it writes.
+#![tactic(auto)]
+
 pub mod families;
 pub mod listing;
 pub mod numbers;
