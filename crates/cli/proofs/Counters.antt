@@ -1,5 +1,5 @@
 -- The lines of a file's rows are numbered without a gap, and the last row so far is the closing row at the end.
-use Rattle.std.proofs.Common.{◌≡◌, ℕ, suc, ◌+◌, ◌<◌, ◌≤◌, Bool, true, false, List, [], ◌∷◌, ◌++◌, length, sym, refl, ap, ◌∙◌, arith}
+use Rattle.std.proofs.Common.{◌≡◌, ℕ, suc, ◌+◌, ◌<◌, Bool, false, List, [], ◌∷◌, ◌++◌, length, refl, ap, ◌∙◌, arith}
 use Rattle.rows.specs.Cuts.{RowAt, Cut}
 use Rattle.rows.specs.Told.{rest, behind}
 use Rattle.rows.specs.Words.{unended, last_unended}

@@ -1,9 +1,9 @@
 -- A sample of a sample is one sample.
-use Rattle.std.proofs.Common.{◌≡◌, ℕ, zero, suc, ◌+◌, min, List, [], ◌∷◌, length, take, drop, refl, ap, ◌∙◌, arith}
+use Rattle.std.proofs.Common.{◌≡◌, ℕ, zero, suc, ◌+◌, min, List, [], ◌∷◌, length, take, drop, ap, ◌∙◌, arith}
 use mathlib.Core.Path.{fun_ext}
-use Rattle.rows.specs.Cuts.{RowAt, Cut, texts, frames}
+use Rattle.rows.specs.Cuts.{RowAt, texts, frames}
 use Rattle.rows.specs.Rules.{Meaning}
-use Rattle.rows.specs.Samples.{sample_from, sampled}
+use Rattle.rows.specs.Samples.{sampled}
 
 take_least : (n k : ℕ) (rs : List RowAt) → take (min n k) rs ≡ take n (take k rs)
 take_least zero k rs = let e : min 0 k ≡ 0 = omega arith in ap (λ i. take i rs) e

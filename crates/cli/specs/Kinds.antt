@@ -1,5 +1,5 @@
 -- Families as the words of a command name them, and their kinds in words.
-use Rattle.std.specs.Prelude.{ℕ, ◌-◌, Bool, true, false, cond, List, Some, None, codes, ◌==◌, nat_le}
+use Rattle.std.specs.Prelude.{ℕ, ◌-◌, cond, List, Some, None, codes, ◌==◌, nat_le}
 use Rattle.fields.specs.Chosen.{of_either}
 use Rattle.fields.specs.Kinds.{ascii_kind, ascii_means}
 use Rattle.fields.specs.Octets.{binary_means}

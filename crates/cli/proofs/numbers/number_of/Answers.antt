@@ -1,5 +1,5 @@
 -- Each turn reads one digit more.
-use Rattle.std.proofs.Common.{◌≡◌, length, sym, ap, ◌∙◌, false-eqb}
+use Rattle.std.proofs.Common.{length, ap, ◌∙◌, false-eqb}
 use Rattle.cli.specs.Numbers.{number_in}
 use Rattle.cli.proofs.Digits.{digit_more, no_number, the_number}
 use Rattle.cli.proofs.numbers.number_of.Goals as goal

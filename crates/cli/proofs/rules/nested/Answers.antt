@@ -1,5 +1,5 @@
 -- The least number, by cases on the samples before.
-use Rattle.std.proofs.Common.{◌≡◌, sym, ap, ◌∙◌}
+use Rattle.std.proofs.Common.{sym, ap, ◌∙◌}
 use Rattle.rows.specs.Samples.{sampled}
 use Rattle.cli.specs.Chosen.{chosen_meaning}
 use Rattle.cli.proofs.Nested.{least_sample}

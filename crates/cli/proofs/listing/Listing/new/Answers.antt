@@ -1,5 +1,5 @@
 -- Set on the file, the rule has the whole listing to come.
-use Rattle.std.proofs.Common.{◌≡◌, ◌<◌, false, length, ap, ◌∙◌, arith}
+use Rattle.std.proofs.Common.{◌<◌, false, length, ap, ◌∙◌, arith}
 use Rattle.rows.specs.Cuts.{Cut}
 use Rattle.cli.specs.Listings.{lines_left}
 use Rattle.cli.specs.declared.listing.Stage.TheVariants.{Rows}

@@ -1,10 +1,10 @@
 -- The first row's line is told, and that row alone is gone.
-use Rattle.std.proofs.Common.{◌≡◌, ◌∷◌, length, string_bytes, sym, ap, ◌∙◌}
+use Rattle.std.proofs.Common.{◌∷◌, length, string_bytes, sym, ap, ◌∙◌}
 use Rattle.rows.specs.Cuts.{Cut, RowAt}
 use Rattle.rows.specs.Told.{behind}
 use Rattle.rows.specs.Words.{unended}
 use Rattle.rows.specs.CutLaws.{was_row}
-use Rattle.cli.specs.Listings.{lines_left, counter_up, row_line}
+use Rattle.cli.specs.Listings.{lines_left, row_line}
 use Rattle.cli.specs.declared.listing.Stage.TheVariants.{Rows}
 use Rattle.cli.proofs.Counters.{row_listed}
 use Rattle.cli.proofs.listing.Listing.next_row.Goals as goal
