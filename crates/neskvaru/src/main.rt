@@ -1,4 +1,6 @@
 // The program: it reads its words, does what they ask from start to finish, and says what it did.
+#![tactic(auto)]
+
 mod field_command;
 mod files;
 mod rows_command;
