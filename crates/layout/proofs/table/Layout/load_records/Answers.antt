@@ -44,7 +44,7 @@ invariant_of-self g c =
     ap (λ m. any_node (λ i (q : Node). misplaced 32 m q.shape) (vec_items nodes)) constant-count
     ∙ ap (any_node (λ i (q : Node). misplaced 32 k q.shape)) nodes_are
     ∙ nodes_placed sorts k (records_in bytes) accepted in
-    (room, ((omega (arith, c.requires.sized.some), omega (arith, c.requires.sized.few)), (hangs, (placed, tt))))
+    record { room = room; few = (omega (arith, c.requires.sized.some), omega (arith, c.requires.sized.few)); hangs = hangs; placed = placed }
 
 pub returns : goal.returns
 returns g c =
