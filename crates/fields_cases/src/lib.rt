@@ -1,4 +1,6 @@
 // Readings and spellings of the field families on chosen bytes, as tables that are run.
+#![tactic(auto)]
+
 use fields::cause::Sort;
 use fields::cursor::Cursor;
 use fields::family::Family;

@@ -1,6 +1,6 @@
 -- What holds of a table that meets no refusal.
-use Rattle.std.proofs.Common.{◌≡◌, ℕ, ◌+◌, ◌-◌, ◌<◌, ◌≤◌, Bool, true, false, cond, not, ◌&&◌, ◌||◌, eqb, ltb, leb, ◌⊎◌, List, [], ◌∷◌, map, Some, None, Option, unwrap_or, sym, refl, ap, ◌∙◌, subst, ap₂, inl, inr, arith}
-use Rattle.std.proofs.lemmas.Bool.{or_parts, or_from, and_parts, and_from, not-false, not_from_true, cond_both, leb-true, ltb-true, or_cases}
+use Rattle.std.proofs.Common.{◌≡◌, ℕ, ◌+◌, ◌-◌, ◌<◌, Bool, true, false, not, ◌&&◌, ◌||◌, eqb, ltb, leb, List, [], ◌∷◌, map, Some, None, Option, unwrap_or, sym, refl, ◌∙◌, ap₂, inl, inr, arith}
+use Rattle.std.proofs.lemmas.Bool.{or_parts, or_from, and_parts, not-false, not_from_true, cond_both, leb-true, or_cases}
 use Rattle.fields.specs.declared.cause.Sort.{Sort}
 use Rattle.packed.specs.declared.record.NodeRecord.{NodeRecord}
 use Rattle.layout.specs.declared.refusal.Refusal.{Refusal}
@@ -9,11 +9,10 @@ use Rattle.layout.specs.declared.node.Side.TheVariants.{Column, Constant}
 use Rattle.layout.specs.declared.node.Shape.{Shape}
 use Rattle.layout.specs.declared.node.Shape.TheVariants.{Field, Mark, Sequence, Choice, Optional, Check}
 use Rattle.layout.specs.Refusals.{or_else}
-use Rattle.layout.specs.Links.{is_set, Link, any_from, any_node, ill_linked, stranded, too_deep, hang_ill}
-use Rattle.layout.specs.Shapes.{relation_of, side_of, shape_of, node_of, any_set, stray_by, stray, arity_of, link_of, link_in, links, links_in, unknown, within, is_side, outside_by, outside, misplaced_side, misplaced}
+use Rattle.layout.specs.Links.{is_set, Link, any_from, any_node, ill_linked, stranded, too_deep}
+use Rattle.layout.specs.Shapes.{relation_of, side_of, shape_of, node_of, any_set, stray_by, stray, arity_of, link_in, links, links_in, unknown, within, is_side, outside_by, outside, misplaced_side, misplaced}
 use Rattle.layout.specs.Trees.{child_of}
 use Rattle.layout.specs.Judged.{Limits, judged}
-use Rattle.layout.proofs.Any.{any_map}
 use Rattle.layout.proofs.Rising.{unset}
 
 -- what holds of every shape that a record may have holds of its own

@@ -1,11 +1,11 @@
 -- Depths worked out in one pass over the node numbers.
-use Rattle.std.proofs.Common.{◌≡◌, ℕ, zero, suc, ◌+◌, ◌-◌, ◌<◌, ◌≤◌, Bool, true, false, eqb, ◌⊎◌, List, [], ◌∷◌, length, get_or, set, sym, refl, ap, ◌∙◌, subst, inl, inr, arith}
+use Rattle.std.proofs.Common.{◌≡◌, ℕ, ◌+◌, ◌-◌, ◌<◌, ◌≤◌, true, false, eqb, ◌⊎◌, List, length, get_or, set, sym, refl, ap, ◌∙◌, subst, inl, inr, arith}
 use Rattle.std.proofs.lemmas.List.{length-set, get_or-set_same, get_or-set_other}
 use Rattle.std.proofs.lemmas.Bool.{cases_eq, cases_lt, cond_both, cond-false, ne_eqb, eqb-false}
-use Rattle.layout.specs.Links.{none, Link, link_at, leads, links_to, Depth, at_root, at_child, at_next, deeper, too_deep, noted}
-use Rattle.layout.proofs.Rising.{Rising, Linked}
+use Rattle.layout.specs.Links.{none, Link, link_at, leads, Depth, at_root, at_child, at_next, too_deep, noted}
+use Rattle.layout.proofs.Rising.{Rising}
 use Rattle.layout.proofs.Once.{Once, own_cases, own_some}
-use Rattle.layout.proofs.Depths.{Deeper, there_found, all_shallow}
+use Rattle.layout.proofs.Depths.{there_found, all_shallow}
 
 set_at : (ds : List ℕ) (i d : ℕ) → 0 < i → noted ds i d ≡ set ds (i - 1) d
 set_at ds i d o = cond-false (eqb i 0) ds (set ds (i - 1) d) (ne_eqb i 0 (λ e. omega arith))

@@ -1,8 +1,8 @@
 -- The depth of a node: it has one at most, and the walk from the root finds one that is too great exactly where there is one.
-use Rattle.std.proofs.Common.{◌≡◌, ℕ, zero, suc, ◌+◌, ◌-◌, ◌<◌, ◌≤◌, Bool, true, false, ◌||◌, eqb, ltb, ◌⊎◌, List, [], ◌∷◌, length, get_or, sym, refl, ap, ◌∙◌, subst, inl, inr, arith}
-use Rattle.std.proofs.lemmas.Bool.{or_cases, or_left, or_right, ltb-true, lt-ltb, both_ways, cases_Bool}
-use Rattle.layout.specs.Links.{none, Link, link_at, leads, links_to, Depth, at_root, at_child, at_next, deeper, too_deep}
-use Rattle.layout.proofs.Rising.{Rising, Linked}
+use Rattle.std.proofs.Common.{◌≡◌, ℕ, zero, suc, ◌+◌, ◌-◌, ◌<◌, ◌≤◌, true, false, ◌||◌, ltb, List, length, sym, refl, ap, subst, inl, inr, arith}
+use Rattle.std.proofs.lemmas.Bool.{or_cases, or_left, or_right, ltb-true, lt-ltb, cases_Bool}
+use Rattle.layout.specs.Links.{none, Link, link_at, leads, Depth, at_root, at_child, at_next, deeper, too_deep}
+use Rattle.layout.proofs.Rising.{Rising}
 use Rattle.layout.proofs.Once.{Once, own_cases, own_child, own_next, own_le, same_source}
 
 abbrev blank : Link

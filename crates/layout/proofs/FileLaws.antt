@@ -1,5 +1,5 @@
 -- What loading a file of the right size gives.
-use Rattle.std.proofs.Common.{◌≡◌, ℕ, ◌+◌, ◌-◌, ◌*◌, ◌<◌, ◌≤◌, min, Bool, true, false, cond, ◌||◌, List, [], ◌∷◌, ◌++◌, map, length, get_or, take, drop, Some, None, Option, sym, refl, ap, ◌∙◌, subst, arith}
+use Rattle.std.proofs.Common.{◌≡◌, ℕ, ◌+◌, ◌-◌, ◌*◌, ◌<◌, Bool, true, false, cond, ◌||◌, List, [], ◌∷◌, ◌++◌, map, length, get_or, take, drop, None, sym, ap, ◌∙◌, arith}
 use Rattle.std.proofs.lemmas.List.{length-take, length-drop, map_more}
 use Rattle.std.proofs.lemmas.Bool.{or_from, cond-true}
 use Rattle.fields.specs.declared.cause.Sort.{Sort}
@@ -8,17 +8,16 @@ use Rattle.packed.specs.Pieces.{records, loaded}
 use Rattle.packed.specs.NodeForm.{unpacked}
 use Rattle.packed.specs.Constants.{constant_of}
 use Rattle.packed.proofs.Loads.{length_records, loaded_exact}
-use Rattle.layout.specs.declared.refusal.Refusal.{Refusal}
 use Rattle.layout.specs.declared.refusal.Refusal.TheVariants.{Size}
 use Rattle.layout.specs.Refusals.{or_else}
-use Rattle.layout.specs.Links.{Link, any_node, ill_linked, stranded, too_deep, hang_ill}
+use Rattle.layout.specs.Links.{any_node, ill_linked, stranded, too_deep, hang_ill}
 use Rattle.layout.specs.Shapes.{node_of, link_in, links, links_in, misplaced}
 use Rattle.layout.specs.Judged.{limits, judged}
-use Rattle.layout.specs.Files.{node_count, constant_count, wrong_size, Sized, records_in, nodes_in, constants_in, refusal}
+use Rattle.layout.specs.Files.{node_count, constant_count, Sized, records_in, constants_in, refusal}
 use Rattle.layout.specs.declared.node.Node.{Node}
 use Rattle.layout.proofs.Any.{any_map}
 use Rattle.layout.proofs.Views.{blank}
-use Rattle.layout.proofs.Accepted.{Passed, passed, same_links, all_placed}
+use Rattle.layout.proofs.Accepted.{passed, same_links, all_placed}
 
 module _ (bytes : List ℕ) (n k : ℕ) (sized : Sized bytes n k) where
   node_bytes_long : length (take (2 + 8 * n - 2) (drop 2 bytes)) ≡ 8 * n

@@ -1,30 +1,26 @@
 -- What an accepted file gives, and what the refusal of the depth says.
-use Rattle.std.proofs.Common.{◌≡◌, ℕ, zero, suc, ◌+◌, ◌-◌, ◌<◌, ◌≤◌, Bool, true, false, cond, ◌||◌, eqb, ◌⊎◌, List, [], ◌∷◌, ◌++◌, map, length, get_or, ℤ, IfOk, Some, None, Ok, Err, Option, Result, unwrap_or, sym, refl, ap, ◌∙◌, subst, inl, inr, append_assoc, arith, MatchResult}
-use Rattle.std.proofs.lemmas.List.{length-map, get_or_past}
+use Rattle.std.proofs.Common.{◌≡◌, ℕ, zero, suc, ◌+◌, ◌-◌, ◌<◌, ◌≤◌, true, false, cond, ◌||◌, eqb, List, [], ◌∷◌, ◌++◌, map, length, ℤ, IfOk, Some, None, Ok, Err, Option, Result, unwrap_or, sym, refl, ap, ◌∙◌, subst, inl, inr, append_assoc, arith, MatchResult}
+use Rattle.std.proofs.lemmas.List.{length-map}
 use Rattle.std.proofs.lemmas.Bool.{or_parts, both_ways, cases_lt, cond-false, cond_both, ne_eqb, eqb-false}
 use Rattle.fields.specs.declared.cause.Sort.{Sort}
-use Rattle.fields.specs.declared.cause.Sort.TheVariants.{Unknown}
 use Rattle.packed.specs.declared.record.NodeRecord.{NodeRecord}
 use Rattle.layout.specs.declared.node.Node.{Node}
 use Rattle.layout.specs.declared.node.Entry.{Entry}
-use Rattle.layout.specs.declared.node.Shape.{Shape}
-use Rattle.layout.specs.declared.node.Shape.TheVariants.{Field, Mark, Sequence, Choice, Optional, Check}
+use Rattle.layout.specs.declared.node.Shape.TheVariants.{Mark}
 use Rattle.layout.specs.declared.refusal.Refusal.{Refusal}
 use Rattle.layout.specs.declared.refusal.Refusal.TheVariants.{Size, Bits, Links, Stranded, Kind, Range, Depth}
-use Rattle.layout.specs.Links.{Link, link_at, any_from, any_node, ill_linked, stranded, too_deep, hang_ill, Depths, Shallow, Deep, Depth as At, at_root, at_child, at_next}
-use Rattle.layout.specs.Shapes.{shape_of, node_of, link_of, links, link_in, links_in, is_unknown, unknown_by, unknown, KnownShape, Known}
+use Rattle.layout.specs.Links.{Link, any_from, any_node, ill_linked, stranded, too_deep, hang_ill, Depths, Shallow, Deep, Depth as At, at_root, at_child, at_next}
+use Rattle.layout.specs.Shapes.{shape_of, node_of, links, link_in, links_in, is_unknown, unknown_by, unknown, KnownShape, Known}
 use Rattle.layout.specs.Trees.{node_at, child_of, parts_at, entry, outline_of, TreeOf}
 use Rattle.layout.specs.Judged.{limits, judged}
 use Rattle.layout.specs.Files.{records_in, Sized, refusal, answer}
 use Rattle.layout.specs.Loading.{DepthTold}
-use Rattle.layout.proofs.Any.{any_at}
-use Rattle.layout.proofs.Views.{get_view, blank}
 use Rattle.layout.proofs.Rising.{Above, Rising, rising, rising_in}
 use Rattle.layout.proofs.Once.{Once, once, once_in}
 use Rattle.layout.proofs.Depths.{depth_unique, found_there, there_found}
 use Rattle.layout.proofs.DepthLoop.{reached}
 use Rattle.layout.proofs.TreeLaws.{tree_of_lem, outline_at}
-use Rattle.layout.proofs.Accepted.{by_shape, Passed, passed, passed_deep}
+use Rattle.layout.proofs.Accepted.{by_shape, passed, passed_deep}
 use Rattle.layout.proofs.FileLaws.{records_count, judged_file}
 
 -- nodes that hang together stand for one tree

@@ -1,9 +1,9 @@
 -- Links that are not astray rise, and stay in the table.
-use Rattle.std.proofs.Common.{◌≡◌, ℕ, zero, suc, ◌+◌, ◌-◌, ◌<◌, ◌≤◌, Bool, true, false, not, ◌&&◌, ◌||◌, eqb, ltb, leb, ◌⊎◌, List, [], ◌∷◌, length, get_or, ◌∙◌, subst, inl, inr, arith}
+use Rattle.std.proofs.Common.{◌≡◌, ℕ, ◌+◌, ◌-◌, ◌<◌, ◌≤◌, false, ◌&&◌, ◌||◌, eqb, ltb, leb, List, length, ◌∙◌, subst, inl, inr, arith}
 use Rattle.std.proofs.lemmas.Bool.{or_parts, and_cases, not-false, eqb-true, eqb-false, leb-false, ltb-false}
 use Rattle.packed.specs.declared.record.NodeRecord.{NodeRecord}
 use Rattle.layout.specs.Shapes.{link_in, links_in}
-use Rattle.layout.specs.Links.{Arity, none, one, several, Link, link_at, is_set, any_node, astray, childless, crowded, ill_linked}
+use Rattle.layout.specs.Links.{none, Link, link_at, is_set, any_node, astray, childless, crowded, ill_linked}
 use Rattle.layout.proofs.Any.{any_at, any_map}
 
 -- c is no node, or one above i

@@ -1,13 +1,13 @@
 -- The tree of a table whose nodes hang together.
-use Rattle.std.proofs.Common.{◌≡◌, ℕ, zero, suc, ◌+◌, ◌-◌, ◌<◌, ◌≤◌, max, Bool, true, false, ◌||◌, eqb, ltb, ◌⊎◌, List, [], ◌∷◌, ◌++◌, map, length, get_or, ℤ, sym, refl, ap, ◌∙◌, subst, ap₂, inl, inr, arith}
+use Rattle.std.proofs.Common.{◌≡◌, ℕ, zero, suc, ◌+◌, ◌-◌, ◌<◌, ◌≤◌, max, false, ◌||◌, eqb, ltb, ◌⊎◌, List, [], ◌∷◌, ◌++◌, length, get_or, ℤ, sym, refl, ap, ◌∙◌, subst, ap₂, inl, inr, arith}
 use Rattle.std.proofs.lemmas.List.{append-nil, length-map}
-use Rattle.std.proofs.lemmas.Bool.{or_parts, ltb-false, eqb-true, eqb-false, eq-eqb, ne_eqb, cases_eq, cases_Bool}
+use Rattle.std.proofs.lemmas.Bool.{or_parts, ltb-false, eqb-false, eq-eqb, ne_eqb, cases_eq}
 use Rattle.layout.specs.declared.node.Shape.{Shape}
 use Rattle.layout.specs.declared.node.Shape.TheVariants.{Field, Mark, Sequence, Choice, Optional, Check}
 use Rattle.layout.specs.declared.node.Node.{Node}
-use Rattle.layout.specs.Links.{Arity, none, one, several, Link, link_at, one_if, leads, links_to, childless, crowded, is_set, any_node, deeper, too_deep}
+use Rattle.layout.specs.Links.{none, Link, link_at, one_if, leads, links_to, childless, crowded, deeper, too_deep}
 use Rattle.layout.specs.Shapes.{arity_of, link_of, links}
-use Rattle.layout.specs.Trees.{Part, Parts, field, mark, check, sequence, choice, optional, end, ◌then◌, node_at, child_of, part_of, parts_in, parts_at, part_at, tree_of, Stands, nothing, siblings, numbers, numbers_of, entry, outline, outline_of, height, height_of, SomePart, OnePart, Filled, AllFilled, times, TreeOf}
+use Rattle.layout.specs.Trees.{Parts, end, ◌then◌, node_at, child_of, part_of, parts_in, parts_at, part_at, tree_of, Stands, nothing, siblings, numbers, numbers_of, entry, outline, outline_of, height, height_of, SomePart, OnePart, Filled, AllFilled, times, TreeOf}
 use Rattle.layout.proofs.Views.{get_view}
 use Rattle.layout.proofs.Rising.{Above, Rising, Linked, unset}
 use Rattle.layout.proofs.Once.{Once, own_child, own_next, own_cases, own_le, own_some, same_source}

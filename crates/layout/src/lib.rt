@@ -1,4 +1,6 @@
 // Layout files: a file of packed nodes and constants becomes a checked table, or is refused with the first number that applies.
+#![tactic(auto)]
+
 mod faults;
 mod header;
 mod judge;

@@ -4,7 +4,6 @@ use Rattle.fields.specs.Meanings.{Meaning}
 use Rattle.fields.specs.Kinds.{ascii_kind, ascii_means}
 use Rattle.fields.specs.Examples.{ReadExamples}
 use Rattle.rows.specs.Examples.{WorkedCuts}
-use Rattle.layout.specs.declared.node.Node.{Node}
 use Rattle.layout.specs.Files.{nodes_in, constants_in, refusal}
 use Rattle.report.specs.declared.line.Line.{Line}
 use Rattle.report.specs.Outcomes.{outcome_number}

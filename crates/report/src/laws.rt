@@ -5,20 +5,20 @@ use fields::family::Family;
 
 // Printing a report gives the bytes of its row, clean or faulty.
 pub fn prints_back<F: Family>(family: &F)
-    ensures { PrintsBack (means family.now) }
+    ensures { PrintsBack (F.means family.now) }
 {}
 
 // A report counts no fault exactly when its row meets the layout.
 pub fn clean_when_met<F: Family>(family: &F)
-    ensures { CleanWhenMet (means family.now) }
+    ensures { CleanWhenMet (F.means family.now) }
 {}
 
 // Two reports are equal exactly when their rows hold the same bytes.
 pub fn told_apart<F: Family>(family: &F)
-    ensures { ToldApart (means family.now) }
+    ensures { ToldApart (F.means family.now) }
 {}
 
 // A value of a given-up branch never reaches a check.
 pub fn given_up_unheard<F: Family>(family: &F)
-    ensures { GivenUpUnheard (means family.now) }
+    ensures { GivenUpUnheard (F.means family.now) }
 {}

@@ -1,5 +1,5 @@
 -- What a stored report is.
-use Rattle.std.specs.Prelude.{◌≡◌, ℕ, List, [], vec_items}
+use Rattle.std.specs.Prelude.{◌≡◌, [], vec_items}
 use Rattle.report.specs.Reports as defined
 use Rattle.store.specs.declared.report.Report.{Report}
 

@@ -1,6 +1,6 @@
 // A report that is kept: its lines, its kept text, how many lines are faults, and the length of its row's frame.
 ghost use Rattle.std.specs.Prelude.{◌≡◌, ◌≤◌, vec_len, vec_capacity};
-ghost use Rattle.report.specs.Lines.{faults as faultsIn};
+ghost use Rattle.report.specs.Lines.{faults as faults_in};
 
 use report::line::Line;
 
@@ -15,5 +15,5 @@ pub struct Report {
     pub frame: usize,
     ghost room: { (514 ≤ vec_capacity lines) × (4096 ≤ vec_capacity text) },
     ghost few: { (vec_len lines ≤ 512) × (vec_len text ≤ 4096) },
-    ghost counted: { faults ≡ faultsIn lines.items },
+    ghost counted: { faults ≡ faults_in lines.items },
 }

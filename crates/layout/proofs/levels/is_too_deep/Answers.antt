@@ -1,5 +1,5 @@
 -- One node more, one that lies too deep, and the end.
-use Rattle.std.proofs.Common.{◌≡◌, ◌+◌, ◌<◌, ◌≤◌, List, length, get_or, sym, refl, ap, ◌∙◌, subst, arith}
+use Rattle.std.proofs.Common.{◌≡◌, ◌+◌, length, get_or, sym, refl, ap, ◌∙◌, subst, arith}
 use Rattle.std.proofs.lemmas.List.{length-map}
 use Rattle.layout.specs.Links.{Link, link_at, noted}
 use Rattle.layout.specs.Shapes.{link_in, links_in}

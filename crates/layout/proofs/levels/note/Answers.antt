@@ -1,8 +1,7 @@
 -- A number past the list notes nothing.
-use Rattle.std.proofs.Common.{◌≡◌, ◌-◌, ◌≤◌, eqb, length, set, sym, refl, ap, ◌∙◌, subst, arith}
+use Rattle.std.proofs.Common.{◌-◌, ◌≤◌, eqb, length, set, sym, ◌∙◌, arith}
 use Rattle.std.proofs.lemmas.List.{set_past}
 use Rattle.std.proofs.lemmas.Bool.{cond-false, ne_eqb}
-use Rattle.layout.specs.Links.{noted}
 use Rattle.layout.proofs.levels.note.Goals as goal
 
 pub returns-else-at-depths : goal.returns-else-at-depths

@@ -7,12 +7,12 @@ use Rattle.headed.specs.HeadCuts.{begins_long}
 use Rattle.headed.proofs.HeadSteps.{none_ahead, tail_ahead, row_ahead}
 use Rattle.headed.proofs.head.HeadedRowRule.next.Goals as goal
 
-pub returns-then-not-has-header : goal.returns-then-not-has-header
-returns-then-not-has-header c =
+pub returns-then-not-has_header : goal.returns-then-not-has_header
+returns-then-not-has_header c =
     let f = c.args.file.now in
     let done = c.args.self.now.done in
     let now : Cut = headed_from done f in
-    let no : begins 4 f ≡ false = sym c.has-header.ensures ∙ c.if-not-has-header.true in
+    let no : begins 4 f ≡ false = sym c.has_header.ensures ∙ c.if-not-has_header.true in
     let none = none_ahead done f no in
     record {
       tells = tail_told now _ none (tail_ahead done f no);
@@ -27,7 +27,7 @@ returns c =
     let f = c.args.file.now in
     let done = c.args.self.now.done in
     let now : Cut = headed_from done f in
-    let yes : begins 4 f ≡ true = sym c.has-header.ensures ∙ c.if-not-has-header.false in
+    let yes : begins 4 f ≡ true = sym c.has_header.ensures ∙ c.if-not-has_header.false in
     let long = begins_long 4 f yes in
     let is = row_ahead done f c.if-self.false yes in
     record {

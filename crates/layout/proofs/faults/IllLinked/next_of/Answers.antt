@@ -1,9 +1,9 @@
 -- The next of a node's record, or of a blank past the table.
-use Rattle.std.proofs.Common.{◌≡◌, ◌-◌, ◌<◌, ◌≤◌, false, ltb, length, get_or, sym, ap, ◌∙◌, subst, arith}
+use Rattle.std.proofs.Common.{◌≡◌, ◌-◌, ◌≤◌, false, ltb, length, get_or, sym, ap, ◌∙◌, subst, arith}
 use Rattle.std.proofs.lemmas.List.{get_or_read, get_or_past}
 use Rattle.std.proofs.lemmas.Bool.{ltb-true, ltb-false}
 use Rattle.packed.specs.declared.record.NodeRecord.{NodeRecord}
-use Rattle.layout.specs.Links.{Link, link_at}
+use Rattle.layout.specs.Links.{Link}
 use Rattle.layout.proofs.Views.{blank, link_in_lem}
 use Rattle.layout.proofs.faults.IllLinked.next_of.Goals as goal
 

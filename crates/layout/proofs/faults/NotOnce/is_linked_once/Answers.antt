@@ -1,5 +1,5 @@
 -- One node more, a second link, and the end.
-use Rattle.std.proofs.Common.{◌≡◌, eqb, sym, ap, arith}
+use Rattle.std.proofs.Common.{eqb, sym, ap, arith}
 use Rattle.std.proofs.lemmas.Bool.{ne_eqb}
 use Rattle.layout.proofs.Views.{blank, links_more, links_all}
 use Rattle.layout.proofs.faults.NotOnce.is_linked_once.Goals as goal

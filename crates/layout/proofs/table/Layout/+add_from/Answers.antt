@@ -1,5 +1,5 @@
 -- Below a node and behind it, numbers rise; its outline is made of its own entry, of what is below, and of its later siblings.
-use Rattle.std.proofs.Common.{◌≡◌, ◌<◌, ◌≤◌, length, vec_items, sym, ap, ◌∙◌, subst, arith}
+use Rattle.std.proofs.Common.{◌<◌, length, vec_items, sym, ap, ◌∙◌, subst, arith}
 use Rattle.layout.specs.declared.node.Node.{Node}
 use Rattle.layout.specs.Trees.{child_of}
 use Rattle.layout.proofs.Rising.{Above}

@@ -1,13 +1,13 @@
 -- The refusal of the size, and what follows once the size is right.
-use Rattle.std.proofs.Common.{◌≡◌, ℕ, map, length, vec_items, vec_len, sym, refl, ap, ◌∙◌, subst, arith}
+use Rattle.std.proofs.Common.{ℕ, vec_items, sym, refl, ap, subst, arith}
 use Rattle.layout.specs.declared.refusal.Refusal.TheVariants.{Size}
 use Rattle.layout.specs.declared.table.Layout.{Layout}
 use Rattle.layout.specs.Refusals.{or_else}
-use Rattle.layout.specs.Shapes.{node_of, Known}
+use Rattle.layout.specs.Shapes.{Known}
 use Rattle.layout.specs.Trees.{TreeOf}
 use Rattle.layout.specs.Judged.{limits, judged}
 use Rattle.layout.specs.Files.{records_in, constant_count, refusal, answer}
-use Rattle.layout.specs.Loading.{Loaded, DepthTold}
+use Rattle.layout.specs.Loading.{DepthTold}
 use Rattle.layout.proofs.LoadLaws.{sound_tree, depth_told, accepted_known, when_accepted}
 use Rattle.layout.proofs.table.Layout.load.Goals as goal
 

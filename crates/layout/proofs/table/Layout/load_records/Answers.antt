@@ -1,14 +1,13 @@
 -- The refusal of the file, or its nodes and constants.
-use Rattle.std.proofs.Common.{◌≡◌, ℕ, ◌+◌, ◌*◌, ◌≤◌, false, List, map, length, Some, None, vec_items, vec_len, vec_capacity, sym, refl, ap, ◌∙◌, subst, arith}
+use Rattle.std.proofs.Common.{◌≡◌, ℕ, ◌+◌, ◌*◌, ◌≤◌, map, length, vec_items, vec_len, vec_capacity, sym, refl, ap, ◌∙◌, arith}
 use Rattle.std.proofs.lemmas.List.{length-map, take_rest}
 use Rattle.packed.specs.Pieces.{records}
 use Rattle.packed.specs.Constants.{constant_of}
-use Rattle.packed.specs.declared.record.NodeRecord.{NodeRecord}
 use Rattle.layout.specs.declared.node.Node.{Node}
 use Rattle.layout.specs.Links.{any_node, hang_ill}
 use Rattle.layout.specs.Shapes.{node_of, links, misplaced}
 use Rattle.layout.specs.Judged.{limits, judged}
-use Rattle.layout.specs.Files.{records_in, constants_in, refusal, answer}
+use Rattle.layout.specs.Files.{records_in, answer}
 use Rattle.layout.proofs.FileLaws.{records_are, records_count, constants_are, constants_count, judged_file, nodes_hang, nodes_placed}
 use Rattle.layout.proofs.table.Layout.load_records.Goals as goal
 
@@ -44,7 +43,7 @@ invariant_of-self g c =
     ap (λ m. any_node (λ i (q : Node). misplaced 32 m q.shape) (vec_items nodes)) constant-count
     ∙ ap (any_node (λ i (q : Node). misplaced 32 k q.shape)) nodes_are
     ∙ nodes_placed sorts k (records_in bytes) accepted in
-    (room, ((omega (arith, c.requires.sized.some), omega (arith, c.requires.sized.few)), (hangs, (placed, tt))))
+    record { room = room; few = (omega (arith, c.requires.sized.some), omega (arith, c.requires.sized.few)); hangs = hangs; placed = placed }
 
 pub returns : goal.returns
 returns g c =

@@ -1,5 +1,5 @@
 -- The root has no siblings.
-use Rattle.std.proofs.Common.{◌≡◌, ◌++◌, vec_items, sym, ap, ◌∙◌, arith}
+use Rattle.std.proofs.Common.{◌++◌, vec_items, ap, ◌∙◌, arith}
 use Rattle.std.proofs.lemmas.List.{append-nil}
 use Rattle.layout.specs.Trees.{tree_of, parts_at, outline, outline_of}
 use Rattle.layout.proofs.TreeLaws.{root_alone}

@@ -1,8 +1,7 @@
 -- There is room for the constants.
-use Rattle.std.proofs.Common.{◌≡◌, ◌+◌, ◌≤◌, true, cond, ◌++◌, length, vec_items, vec_len, vec_capacity, sym, ap, ◌∙◌, arith}
+use Rattle.std.proofs.Common.{length, ap, ◌∙◌, arith}
 use Rattle.layout.proofs.FileLaws.{refilled}
 use Rattle.packed.specs.Constants.{constant_of}
-use Rattle.packed.specs.Pieces.{records}
 use Rattle.packed.proofs.Loads.{loaded_exact, length_exact}
 use Rattle.layout.proofs.table.loading.put_constants.Goals as goal
 

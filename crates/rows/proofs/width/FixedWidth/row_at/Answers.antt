@@ -6,7 +6,7 @@ use Rattle.rows.proofs.width.FixedWidth.row_at.Goals as goal
 pub returns-then-file-start : goal.returns-then-file-start
 returns-then-file-start c =
     let s = c.args.self.now in
-    tail_at s.width s.at c.args.file.now c.min-start.result c.min-start.ensures c.if-file-start.true
+    tail_at s.width s.at c.args.file.now c.min-start.result c.min-start.ensures (omega arith)
 
 pub returns : goal.returns
 returns c =
@@ -14,5 +14,5 @@ returns c =
     record {
       rises = omega arith;
       within = omega arith;
-      hands = row_at s.width s.at c.args.file.now c.min-start.result c.min-start.ensures s.in_range.0 c.if-file-start.false;
+      hands = row_at s.width s.at c.args.file.now c.min-start.result c.min-start.ensures s.in_range.0 (omega arith);
     }
