@@ -24,7 +24,7 @@ def files():
 
 
 def is_odd(name):
-    return "-" in name.strip("-") and re.search(r"[^\W\d_]", name) or re.search(r"[a-z][A-Z]", name)
+    return "-" in name.strip("-") and re.search(r"[^\W\d_]", name) or re.match(r"[a-z]\w*[A-Z]|[A-Z]\w*_", name)
 
 
 def parts(name):
@@ -68,6 +68,15 @@ def declared():
             is_type = bool(re.search(r"(?:^|→ )Type \d\s*$", whole))
             names[m[2]] = names.get(m[2], False) or is_type
             homes.setdefault(m[2], set()).add(home)
+    # variables, and names given by `as`
+    for path in [*files(), *sorted(pathlib.Path("crates").glob("*/src/**/*.rt"))]:
+        for line in path.read_text().split("\n"):
+            line = re.sub(r'"[^"]*"', "", line)
+            if path.suffix == ".rt":
+                line = " ".join(re.findall(r" as (\w+)", line)) if line.startswith("ghost use") else ""
+            for name in re.findall(r"(?<![\w.'-])[a-z]+[A-Z]\w*", "" if line.lstrip().startswith("--") else line):
+                names.setdefault(name, False)
+                homes.setdefault(name, set()).add(path.parts[1])
     return names, homes
 
 
@@ -106,7 +115,7 @@ def main():
             path.write_text(new)
     for path in sorted(pathlib.Path("crates").glob("*/src/**/*.rt")):
         old = path.read_text()
-        new = "\n".join(l if l.startswith("ghost use Rattle.std") else word.sub(turn, l) for l in old.split("\n"))
+        new = "\n".join(re.sub(r"(?<= as )(\w+)", lambda m: names.get(m[1], m[1]), l) if l.startswith("ghost use Rattle.std") else word.sub(turn, l) for l in old.split("\n"))
         if new != old:
             path.write_text(new)
     for path in [pathlib.Path("README.md"), *sorted(pathlib.Path("docs").glob("*.md"))]:

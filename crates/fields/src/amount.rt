@@ -43,8 +43,8 @@ fn take_fraction(p: u8, bytes: &[u8], cursor: &mut Cursor) -> Result<u64, Cause>
 
 // A number in front of the point and one behind it, in units of the last decimal.
 fn in_units(p: u8, front: u64, fraction: u64) -> u64
-    requires p_bound { p ≤ 4 }
-    requires fraction_bound { front * 10 ^ p + fraction < 10 ^ 12 }
+    requires decimals { p ≤ 4 }
+    requires small { front * 10 ^ p + fraction < 10 ^ 12 }
     ensures { result ≡ front * 10 ^ p + fraction }
 {
     front * scale(p) + fraction
@@ -132,8 +132,8 @@ fn put_minus(number: i64, out: &mut [u8]) -> usize
 
 // Writes the point and the digits behind it at a place, and says where the next byte goes.
 fn put_point(p: u8, n: u64, out: &mut [u8], at: usize) -> usize
-    requires p_bound { p ≤ 4 }
-    requires n_in_bounds { at + length (point_of p n) ≤ length out.old }
+    requires decimals { p ≤ 4 }
+    requires room { at + length (point_of p n) ≤ length out.old }
     ensures len { result ≡ at + length (point_of p n) }
     ensures after { out.new ≡ over at (point_of p n) out.old }
 {
@@ -146,8 +146,8 @@ fn put_point(p: u8, n: u64, out: &mut [u8], at: usize) -> usize
 
 // Writes an amount at the beginning of a buffer.
 pub(crate) fn put_amount(p: u8, number: i64, out: &mut [u8]) -> usize
-    requires p_bound { p ≤ 4 }
-    requires number_in_bounds { length (amount_spells p number) ≤ length out.old }
+    requires decimals { p ≤ 4 }
+    requires room { length (amount_spells p number) ≤ length out.old }
     ensures len { result ≡ length (amount_spells p number) }
     ensures after { out.new ≡ laid (amount_spells p number) out.old }
 {

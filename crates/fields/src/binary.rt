@@ -1,10 +1,10 @@
 // The binary family: numbers of a fixed count of bytes, most significant first, and kept bytes.
-ghost use Rattle.std.specs.Prelude.{◌≡◌, ◌+◌, ◌^◌, ◌<◌, ◌≤◌, length, take as firstBytes, drop, MatchResult};
+ghost use Rattle.std.specs.Prelude.{◌≡◌, ◌+◌, ◌^◌, ◌<◌, ◌≤◌, length, take as first_bytes, drop, MatchResult};
 ghost use Rattle.fields.specs.declared.cause.Cause.TheVariants.{Short};
 ghost use Rattle.fields.specs.Buffers.{laid, written};
 ghost use Rattle.fields.specs.Meanings.{moved};
 ghost use Rattle.fields.specs.Known.{binary_table, listed};
-ghost use Rattle.fields.specs.Octets.{big as bigOf, octets, twos, of_twos, unsigned, complement, stored, binary_means};
+ghost use Rattle.fields.specs.Octets.{big as big_of, octets, twos, of_twos, unsigned, complement, stored, binary_means};
 ghost use Rattle.fields.specs.BigBytes.{binary_lawful};
 
 use crate::cause::{Cause, Sort};
@@ -19,7 +19,7 @@ pub struct Binary;
 // The number that bytes make, most significant first.
 fn big(bytes: &[u8]) -> u64
     requires { length bytes.now ≤ 4 }
-    ensures is { result ≡ bigOf bytes.now }
+    ensures is { result ≡ big_of bytes.now }
     ensures below { result < 256 ^ length bytes.now }
 {
     let mut n: u64 = 0;
@@ -80,7 +80,7 @@ fn bits_of(full: u64, number: i64) -> u64
 // Moves over the next p bytes, which have to be there.
 fn take<'a>(p: u8, bytes: &'a [u8], cursor: &mut Cursor) -> Result<&'a [u8], Cause>
     requires { 1 ≤ p }
-    ensures { MatchResult result (λ x. (p ≤ length (drop cursor.old.place bytes.now)) × (x.now ≡ firstBytes p (drop cursor.old.place bytes.now)) × (length x.now ≡ p) × (cursor.new.place ≡ cursor.old.place + p)) (λ e. (e ≡ Short) × (length (drop cursor.old.place bytes.now) < p) × (cursor.new.place ≡ cursor.old.place)) }
+    ensures { MatchResult result (λ x. (p ≤ length (drop cursor.old.place bytes.now)) × (x.now ≡ first_bytes p (drop cursor.old.place bytes.now)) × (length x.now ≡ p) × (cursor.new.place ≡ cursor.old.place + p)) (λ e. (e ≡ Short) × (length (drop cursor.old.place bytes.now) < p) × (cursor.new.place ≡ cursor.old.place)) }
 {
     let start = cursor.place;
     if cursor.left(bytes) < p as usize {

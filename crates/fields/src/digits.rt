@@ -23,8 +23,8 @@ pub(crate) fn run(bytes: &[u8], at: usize) -> usize
 
 // The number that the first digits of a run at a place write.
 pub(crate) fn value(bytes: &[u8], at: usize, len: usize) -> u64
-    requires len_bound { len ≤ run_of (drop at bytes.now) }
-    requires len_bound_2 { len ≤ 12 }
+    requires digits { len ≤ run_of (drop at bytes.now) }
+    requires few { len ≤ 12 }
     ensures is { result ≡ value_of (take len (drop at bytes.now)) }
     ensures below { result < 10 ^ len }
     ensures small { result < 10 ^ 12 }

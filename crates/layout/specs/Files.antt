@@ -21,10 +21,10 @@ constant_count bytes = slice_index bytes 1
 
 -- the counts are missing or out of range, or the length is not theirs
 abbrev pub wrong_size : ℕ → ℕ → List ℕ → Bool
-wrong_size mostNodes mostConstants bytes =
+wrong_size most_nodes most_constants bytes =
     nat_lt (length bytes) 2
-    || (not (within 1 mostNodes (node_count bytes))
-    || (nat_lt mostConstants (constant_count bytes) || not (length bytes == 2 + 8 * node_count bytes + 8 * constant_count bytes)))
+    || (not (within 1 most_nodes (node_count bytes))
+    || (nat_lt most_constants (constant_count bytes) || not (length bytes == 2 + 8 * node_count bytes + 8 * constant_count bytes)))
 
 -- a file whose counts are in range and whose length is theirs
 pub record Sized (bytes : List ℕ) (nodes constants : ℕ) : Type 0 where

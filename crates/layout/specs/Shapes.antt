@@ -1,7 +1,7 @@
 -- What the numbers of a packed node say, and where they are out of order.
 use Rattle.std.specs.Prelude.{◌≡◌, ℕ, ◌-◌, Bool, true, false, cond, not, ◌&&◌, ◌||◌, List, [], ◌∷◌, map, Some, None, Option, ◌==◌, nat_le, nat_lt}
 use Rattle.std.specs.Option.{unwrap_or}
-use Rattle.std.specs.List.{AllByRecursion as All}
+use Rattle.std.specs.List.{AllByRecursion}
 use Rattle.fields.specs.declared.cause.Sort.{Sort}
 use Rattle.fields.specs.declared.cause.Sort.TheVariants.{Unknown, Numeric, Kept}
 use Rattle.packed.specs.declared.record.NodeRecord.{NodeRecord}
@@ -140,4 +140,4 @@ KnownShape sorts (Check relation left right) = Unit {0}
 
 -- every kind in the table is known
 abbrev pub Known : (ℕ → ℕ → Sort) → List Node → Type 0
-Known sorts ns = All (λ n. KnownShape sorts n.shape) ns
+Known sorts ns = AllByRecursion (λ n. KnownShape sorts n.shape) ns

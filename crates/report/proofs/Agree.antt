@@ -78,13 +78,13 @@ join_agrees : (ls : List Line) (q r : ℕ) (t : Trial) (d : OpenReading) → fau
 join_agrees ls q r (given_up s) d c h = omega (arith, faults_append ls d.lines)
 join_agrees ls q r (clean ms e s) d c h = (ap (joins (gave ls q false r)) h.0, faults_append ls ms ∙ ap (λ n. n + faults ms) c ∙ zero-add (faults ms) ∙ h.1)
 
-next_agrees : (row : List ℕ) (q : Part) (qs : Parts) (pre : List Line) (t : Trial) (d : OpenReading) (rest : List Line → ℕ → Trial) (goOn seekOn : Rest) →
-    ((l : List Line) (p : ℕ) → Agrees (rest l p) (goOn l p)) → Agrees t d → Agrees (and_then pre t rest) (child_then row q qs pre d goOn seekOn)
-next_agrees row q qs pre (given_up r) d rest goOn seekOn f h =
-    omega (arith, faults_append d.lines (after_child row q qs d.broke goOn seekOn (pre ++ d.lines) d.place).lines)
-next_agrees row q qs pre (clean ls e r) d rest goOn seekOn f h =
-    subst (λ x. Agrees (and_then pre (clean ls e r) rest) (child_then row q qs pre x goOn seekOn)) (sym h.0)
-    (join_agrees ls e r (rest (pre ++ ls) e) (goOn (pre ++ ls) e) h.1 (f (pre ++ ls) e))
+next_agrees : (row : List ℕ) (q : Part) (qs : Parts) (pre : List Line) (t : Trial) (d : OpenReading) (rest : List Line → ℕ → Trial) (go_on seek_on : Rest) →
+    ((l : List Line) (p : ℕ) → Agrees (rest l p) (go_on l p)) → Agrees t d → Agrees (and_then pre t rest) (child_then row q qs pre d go_on seek_on)
+next_agrees row q qs pre (given_up r) d rest go_on seek_on f h =
+    omega (arith, faults_append d.lines (after_child row q qs d.broke go_on seek_on (pre ++ d.lines) d.place).lines)
+next_agrees row q qs pre (clean ls e r) d rest go_on seek_on f h =
+    subst (λ x. Agrees (and_then pre (clean ls e r) rest) (child_then row q qs pre x go_on seek_on)) (sym h.0)
+    (join_agrees ls e r (rest (pre ++ ls) e) (go_on (pre ++ ls) e) h.1 (f (pre ++ ls) e))
 
 module _ (means : ℕ → ℕ → Meaning) (nodes : List Node) (row : List ℕ) where
   mutual

@@ -1,6 +1,6 @@
 -- The lines of a reading, printed with their kept text, are the bytes that it took; of a whole row, the row.
 use Rattle.std.proofs.Common.{◌≡◌, ℕ, zero, suc, ◌+◌, ◌-◌, ◌<◌, ◌≤◌, Bool, true, false, cond, ltb, List, [], ◌∷◌, ◌++◌, length, get_or, take, drop, ℤ, pos, Some, None, Option, sym, refl, ap, ◌∙◌, subst, ap₂, append_assoc, append-nil, zero-le, arith, length-drop, take-append-drop, get_or-drop, drop-drop}
-use Rattle.std.specs.List.{AllByRecursion as All}
+use Rattle.std.specs.List.{AllByRecursion}
 use Rattle.std.proofs.ByRecursion.{All-append}
 use Rattle.std.proofs.lemmas.List.{drop_all, take_at, drop_at, length-take-le}
 use Rattle.std.proofs.lemmas.Bool.{ltb-false}
@@ -53,7 +53,7 @@ module _ (means : ℕ → ℕ → Meaning) (nodes : List Node) (row : List ℕ) 
   stands_append (x ∷ xs) ys = ap (λ t. stand x ++ t) (stands_append xs ys) ∙ sym (append_assoc (stand x) (stands xs) (stands ys))
 
   -- printing takes each line's text where the kept text has it
-  printed_kept : (ls : List Line) (more : List ℕ) → All Sound ls → printed means nodes ls (kept means nodes row ls ++ more) ≡ stands ls
+  printed_kept : (ls : List Line) (more : List ℕ) → AllByRecursion Sound ls → printed means nodes ls (kept means nodes row ls ++ more) ≡ stands ls
   printed_kept [] more h = refl
   printed_kept (l ∷ ls) more h =
       let n = share_of means nodes l in
@@ -67,7 +67,7 @@ module _ (means : ℕ → ℕ → Meaning) (nodes : List Node) (row : List ℕ) 
   -- lines that stand for the bytes from p to q
   record Covers (ls : List Line) (p q : ℕ) : Type 0 where
     same : stands ls ++ drop q row ≡ drop p row
-    sound : All Sound ls
+    sound : AllByRecursion Sound ls
     within : q ≤ length row
 
   -- one line

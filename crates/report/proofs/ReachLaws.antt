@@ -95,21 +95,21 @@ next_reaches pre d rest f =
 wrote_reaches : (pre ls : List Line) (p : ℕ) (b : Bool) → ReadReaches (length pre) (wrote pre ls p b)
 wrote_reaches pre ls p b = omega arith
 
-sought_reaches : (i : ℕ) (later : Parts) (pre : List Line) (p : ℕ) (o : Option ℕ) (goOn : Rest) → RestReaches goOn → ReadReaches (length pre) (sought_at i later pre p o goOn)
-sought_reaches i later pre p None goOn f = wrote_reaches pre (skips later p) p true
-sought_reaches i later pre p (Some j) goOn f = next_reaches pre (wrote pre (found i p j) (j + 1) false) goOn f
+sought_reaches : (i : ℕ) (later : Parts) (pre : List Line) (p : ℕ) (o : Option ℕ) (go_on : Rest) → RestReaches go_on → ReadReaches (length pre) (sought_at i later pre p o go_on)
+sought_reaches i later pre p None go_on f = wrote_reaches pre (skips later p) p true
+sought_reaches i later pre p (Some j) go_on f = next_reaches pre (wrote pre (found i p j) (j + 1) false) go_on f
 
-broken_reaches : (row : List ℕ) (m : Option ℕ) (q : Part) (qs : Parts) (goOn seekOn : Rest) → RestReaches goOn → RestReaches seekOn → RestReaches (broken row m q qs goOn seekOn)
-broken_reaches row None q qs goOn seekOn f g = λ l p. g l p
-broken_reaches row (Some b) q qs goOn seekOn f g = λ l p. sought_reaches (node_of q) qs l p (first_from row b p) goOn f
+broken_reaches : (row : List ℕ) (m : Option ℕ) (q : Part) (qs : Parts) (go_on seek_on : Rest) → RestReaches go_on → RestReaches seek_on → RestReaches (broken row m q qs go_on seek_on)
+broken_reaches row None q qs go_on seek_on f g = λ l p. g l p
+broken_reaches row (Some b) q qs go_on seek_on f g = λ l p. sought_reaches (node_of q) qs l p (first_from row b p) go_on f
 
-hunted_reaches : (row : List ℕ) (m : Option ℕ) (q : Part) (qs : Parts) (goOn seekOn : Rest) → RestReaches goOn → RestReaches seekOn → RestReaches (sought row m q qs goOn seekOn)
-hunted_reaches row None q qs goOn seekOn f g = λ l p. next_reaches l (wrote l (skipped (node_of q) p ∷ []) p false) seekOn g
-hunted_reaches row (Some b) q qs goOn seekOn f g = λ l p. sought_reaches (node_of q) (q then qs) l p (first_from row b p) goOn f
+hunted_reaches : (row : List ℕ) (m : Option ℕ) (q : Part) (qs : Parts) (go_on seek_on : Rest) → RestReaches go_on → RestReaches seek_on → RestReaches (sought row m q qs go_on seek_on)
+hunted_reaches row None q qs go_on seek_on f g = λ l p. next_reaches l (wrote l (skipped (node_of q) p ∷ []) p false) seek_on g
+hunted_reaches row (Some b) q qs go_on seek_on f g = λ l p. sought_reaches (node_of q) (q then qs) l p (first_from row b p) go_on f
 
-after_reaches : (row : List ℕ) (q : Part) (qs : Parts) (b : Bool) (goOn seekOn : Rest) → RestReaches goOn → RestReaches seekOn → RestReaches (after_child row q qs b goOn seekOn)
-after_reaches row q qs true goOn seekOn f g = broken_reaches row (byte_of q) q qs goOn seekOn f g
-after_reaches row q qs false goOn seekOn f g = λ l p. f l p
+after_reaches : (row : List ℕ) (q : Part) (qs : Parts) (b : Bool) (go_on seek_on : Rest) → RestReaches go_on → RestReaches seek_on → RestReaches (after_child row q qs b go_on seek_on)
+after_reaches row q qs true go_on seek_on f g = broken_reaches row (byte_of q) q qs go_on seek_on f g
+after_reaches row q qs false go_on seek_on f g = λ l p. f l p
 
 module _ (means : ℕ → ℕ → Meaning) (nodes : List Node) (row : List ℕ) where
   mutual

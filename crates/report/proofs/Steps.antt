@@ -131,32 +131,32 @@ module _ (means : ℕ → ℕ → Meaning) (nodes : List Node) (constants : List
   found_kept i byte pre p j h le s =
       S.join pre (scrap i p j) (line i Good j 1 (pos 0) ∷ []) p j (j + 1) (S.loose i byte pre p j h le s) (S.good_mark i byte (pre ++ scrap i p j) j h s)
 
-  sought_kept : (i byte : ℕ) (later : Parts) (pre : List Line) (p : ℕ) (o : Option ℕ) (goOn : Rest) → Has nodes i (Mark byte) → IsFound row byte p o → Keeps goOn →
-      Kept pre p (sought_at i later pre p o goOn)
-  sought_kept i byte later pre p None goOn h f k = skips_kept later pre p
-  sought_kept i byte later pre p (Some j) goOn h f k =
-      next_kept pre p (wrote pre (found i p j) (j + 1) false) goOn (found_kept i byte pre p j h f.0 f.1) (k (pre ++ found i p j) (j + 1))
+  sought_kept : (i byte : ℕ) (later : Parts) (pre : List Line) (p : ℕ) (o : Option ℕ) (go_on : Rest) → Has nodes i (Mark byte) → IsFound row byte p o → Keeps go_on →
+      Kept pre p (sought_at i later pre p o go_on)
+  sought_kept i byte later pre p None go_on h f k = skips_kept later pre p
+  sought_kept i byte later pre p (Some j) go_on h f k =
+      next_kept pre p (wrote pre (found i p j) (j + 1) false) go_on (found_kept i byte pre p j h f.0 f.1) (k (pre ++ found i p j) (j + 1))
 
-  broken_kept : (m : Option ℕ) (q : Part) (qs : Parts) (goOn seekOn : Rest) (pre : List Line) (p : ℕ) → ByteFits m (node_of q) → Keeps goOn → Keeps seekOn →
-      Kept pre p (broken row m q qs goOn seekOn pre p)
-  broken_kept None q qs goOn seekOn pre p h f g = g pre p
-  broken_kept (Some b) q qs goOn seekOn pre p h f g = sought_kept (node_of q) b qs pre p (first_from row b p) goOn h (found_from row b p) f
+  broken_kept : (m : Option ℕ) (q : Part) (qs : Parts) (go_on seek_on : Rest) (pre : List Line) (p : ℕ) → ByteFits m (node_of q) → Keeps go_on → Keeps seek_on →
+      Kept pre p (broken row m q qs go_on seek_on pre p)
+  broken_kept None q qs go_on seek_on pre p h f g = g pre p
+  broken_kept (Some b) q qs go_on seek_on pre p h f g = sought_kept (node_of q) b qs pre p (first_from row b p) go_on h (found_from row b p) f
 
-  hunted_kept : (m : Option ℕ) (q : Part) (qs : Parts) (goOn seekOn : Rest) (pre : List Line) (p : ℕ) → ByteFits m (node_of q) → Keeps goOn → Keeps seekOn →
-      Kept pre p (sought row m q qs goOn seekOn pre p)
-  hunted_kept None q qs goOn seekOn pre p h f g =
-      next_kept pre p (wrote pre (skipped (node_of q) p ∷ []) p false) seekOn (S.passed (node_of q) pre p) (g (pre ++ skipped (node_of q) p ∷ []) p)
-  hunted_kept (Some b) q qs goOn seekOn pre p h f g = sought_kept (node_of q) b (q then qs) pre p (first_from row b p) goOn h (found_from row b p) f
+  hunted_kept : (m : Option ℕ) (q : Part) (qs : Parts) (go_on seek_on : Rest) (pre : List Line) (p : ℕ) → ByteFits m (node_of q) → Keeps go_on → Keeps seek_on →
+      Kept pre p (sought row m q qs go_on seek_on pre p)
+  hunted_kept None q qs go_on seek_on pre p h f g =
+      next_kept pre p (wrote pre (skipped (node_of q) p ∷ []) p false) seek_on (S.passed (node_of q) pre p) (g (pre ++ skipped (node_of q) p ∷ []) p)
+  hunted_kept (Some b) q qs go_on seek_on pre p h f g = sought_kept (node_of q) b (q then qs) pre p (first_from row b p) go_on h (found_from row b p) f
 
-  after_kept : (q : Part) (qs : Parts) (b : Bool) (goOn seekOn : Rest) (pre : List Line) (p : ℕ) → Fits nodes constants q → Keeps goOn → Keeps seekOn →
-      Kept pre p (after_child row q qs b goOn seekOn pre p)
-  after_kept q qs true goOn seekOn pre p h f g = broken_kept (byte_of q) q qs goOn seekOn pre p (byte_fits q h) f g
-  after_kept q qs false goOn seekOn pre p h f g = f pre p
+  after_kept : (q : Part) (qs : Parts) (b : Bool) (go_on seek_on : Rest) (pre : List Line) (p : ℕ) → Fits nodes constants q → Keeps go_on → Keeps seek_on →
+      Kept pre p (after_child row q qs b go_on seek_on pre p)
+  after_kept q qs true go_on seek_on pre p h f g = broken_kept (byte_of q) q qs go_on seek_on pre p (byte_fits q h) f g
+  after_kept q qs false go_on seek_on pre p h f g = f pre p
 
-  child_kept : (q : Part) (qs : Parts) (pre : List Line) (p : ℕ) (d : OpenReading) (goOn seekOn : Rest) → Fits nodes constants q → Kept pre p d → Keeps goOn → Keeps seekOn →
-      Kept pre p (child_then row q qs pre d goOn seekOn)
-  child_kept q qs pre p d goOn seekOn h k f g =
-      next_kept pre p d (after_child row q qs d.broke goOn seekOn) k (after_kept q qs d.broke goOn seekOn (pre ++ d.lines) d.place h f g)
+  child_kept : (q : Part) (qs : Parts) (pre : List Line) (p : ℕ) (d : OpenReading) (go_on seek_on : Rest) → Fits nodes constants q → Kept pre p d → Keeps go_on → Keeps seek_on →
+      Kept pre p (child_then row q qs pre d go_on seek_on)
+  child_kept q qs pre p d go_on seek_on h k f g =
+      next_kept pre p d (after_child row q qs d.broke go_on seek_on) k (after_kept q qs d.broke go_on seek_on (pre ++ d.lines) d.place h f g)
 
   mutual
     pub reading_keeps : (q : Part) (pre : List Line) (p : ℕ) → Fits nodes constants q → Kept pre p (open_reading means nodes row q pre p)

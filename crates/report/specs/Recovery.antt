@@ -60,24 +60,24 @@ found i p j = scrap i p j ++ line i Good j 1 (pos 0) ∷ []
 
 -- reading goes on behind the sought mark where its byte is found; else the children `later` are passed over, and the sequence breaks
 abbrev pub sought_at : ℕ → Parts → List Line → ℕ → Option ℕ → Rest → OpenReading
-sought_at i later pre p None goOn = wrote pre (skips later p) p true
-sought_at i later pre p (Some j) goOn = next pre (wrote pre (found i p j) (j + 1) false) goOn
+sought_at i later pre p None go_on = wrote pre (skips later p) p true
+sought_at i later pre p (Some j) go_on = next pre (wrote pre (found i p j) (j + 1) false) go_on
 
 -- After a break of the child q with the children qs behind it: q is the sought mark if it is a mark, else it is sought among qs.
 abbrev pub broken : List ℕ → Option ℕ → Part → Parts → Rest → Rest → Rest
-broken row None q qs goOn seekOn pre p = seekOn pre p
-broken row (Some b) q qs goOn seekOn pre p = sought_at (node_of q) qs pre p (first_from row b p) goOn
+broken row None q qs go_on seek_on pre p = seek_on pre p
+broken row (Some b) q qs go_on seek_on pre p = sought_at (node_of q) qs pre p (first_from row b p) go_on
 
 -- While a mark is sought, the child q with the children qs behind it: it is passed over unless it is a mark.
 abbrev pub sought : List ℕ → Option ℕ → Part → Parts → Rest → Rest → Rest
-sought row None q qs goOn seekOn pre p = next pre (wrote pre (skipped (node_of q) p ∷ []) p false) seekOn
-sought row (Some b) q qs goOn seekOn pre p = sought_at (node_of q) (q then qs) pre p (first_from row b p) goOn
+sought row None q qs go_on seek_on pre p = next pre (wrote pre (skipped (node_of q) p ∷ []) p false) seek_on
+sought row (Some b) q qs go_on seek_on pre p = sought_at (node_of q) (q then qs) pre p (first_from row b p) go_on
 
 -- behind the child q, which broke or not
 abbrev pub after_child : List ℕ → Part → Parts → Bool → Rest → Rest → Rest
-after_child row q qs true goOn seekOn pre p = broken row (byte_of q) q qs goOn seekOn pre p
-after_child row q qs false goOn seekOn pre p = goOn pre p
+after_child row q qs true go_on seek_on pre p = broken row (byte_of q) q qs go_on seek_on pre p
+after_child row q qs false go_on seek_on pre p = go_on pre p
 
 -- the child q as it was read, and what follows
 abbrev pub child_then : List ℕ → Part → Parts → List Line → OpenReading → Rest → Rest → OpenReading
-child_then row q qs pre r goOn seekOn = next pre r (after_child row q qs r.broke goOn seekOn)
+child_then row q qs pre r go_on seek_on = next pre r (after_child row q qs r.broke go_on seek_on)

@@ -1,6 +1,6 @@
 // Checks: what a relation between two values comes to.
 ghost use Rattle.std.specs.Prelude.{◌≡◌};
-ghost use Rattle.report.specs.Checks.{holds as fulfilled, compared as outcomeOf};
+ghost use Rattle.report.specs.Checks.{holds as fulfilled, compared as outcome_of};
 
 use crate::outcome::Outcome;
 use layout::node::Relation;
@@ -19,7 +19,7 @@ pub fn holds(relation: Relation, left: i64, right: i64) -> bool
 
 // The outcome of a check between two values, of which either may be missing.
 pub fn compared(relation: Relation, left: Option<i64>, right: Option<i64>) -> Outcome
-    ensures { result ≡ outcomeOf relation left right }
+    ensures { result ≡ outcome_of relation left right }
 {
     let (Some(x), Some(y)) = (left, right) else {
         return Outcome::Skipped;

@@ -1,6 +1,6 @@
 // Loading a layout file into a table.
 ghost use Rattle.std.specs.Prelude.{◌≡◌, ◌*◌, ◌≤◌, [], ◌∷◌, map, length, IfOk, vec_capacity, MatchResult};
-ghost use Rattle.packed.specs.Pieces.{records as recordsOf};
+ghost use Rattle.packed.specs.Pieces.{records as records_of};
 ghost use Rattle.packed.specs.Constants.{constant_of};
 ghost use Rattle.layout.specs.declared.node.Shape.TheVariants.{Mark};
 ghost use Rattle.layout.specs.Shapes.{node_of};
@@ -46,7 +46,7 @@ fn put_nodes(out: &mut Vec<Node>, records: &[NodeRecord])
 fn put_constants(out: &mut Vec<i64>, bytes: &[u8], numbers: &mut [i64])
     requires fit { length bytes.now ≡ 8 * length numbers.old }
     requires room { length numbers.old ≤ vec_capacity out.old }
-    ensures items { out.new.items ≡ recordsOf constant_of bytes.now }
+    ensures items { out.new.items ≡ records_of constant_of bytes.now }
     ensures capacity { vec_capacity out.old ≤ vec_capacity out.new }
 {
     load(bytes, numbers);

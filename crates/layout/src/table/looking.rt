@@ -1,6 +1,6 @@
 // Looking a table up: its nodes, its constants, and its tree.
 ghost use Rattle.std.specs.Prelude.{◌≡◌, ◌<◌, ◌≤◌, ◌++◌, length, IfOk, OnOk};
-ghost use Rattle.layout.specs.Trees.{node_at, parts_at, tree_of, outline as outlineFrom, outline_of};
+ghost use Rattle.layout.specs.Trees.{node_at, parts_at, tree_of, outline as outline_from, outline_of};
 
 use crate::node::{Entry, Node, Shape};
 use crate::table::Layout;
@@ -52,7 +52,7 @@ impl Layout {
 
     // The nodes of the tree in the order of reading, each before those below it.
     pub fn outline(&self, heap: Global) -> Result<Vec<Entry>, AllocError>
-        ensures { IfOk result (λ v. v.items ≡ outlineFrom 1 (tree_of self.now.nodes.items self.now.constants.items)) }
+        ensures { IfOk result (λ v. v.items ≡ outline_from 1 (tree_of self.now.nodes.items self.now.constants.items)) }
     {
         let mut out = Vec::new(heap);
         self.add_from(1, 1, &mut out)?;

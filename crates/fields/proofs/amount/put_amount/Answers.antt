@@ -27,7 +27,7 @@ put_digits-after-requires c =
     let i = to_z-of_z w64 z c.ranges.number in
     let m = ap (λ y. length (minus_of y)) i in
     let l = ap length (digits z _ _ p _ a c.unsigned_abs-n.type_inv c.scale.ensures c.width.ensures) in
-    omega (arith, lengths (minus_of z) (decimal (nat_abs z / 10 ^ p)) (point_of p (nat_abs z)), c.requires.number_in_bounds, c.put_minus-at.ensures.len)
+    omega (arith, lengths (minus_of z) (decimal (nat_abs z / 10 ^ p)) (point_of p (nat_abs z)), c.requires.room, c.put_minus-at.ensures.len)
 
 pub put_point-requires : goal.put_point-requires
 put_point-requires c =
@@ -38,7 +38,7 @@ put_point-requires c =
     let m = ap (λ y. length (minus_of y)) i in
     let l = ap length (digits z _ _ p _ a c.unsigned_abs-n.type_inv c.scale.ensures c.width.ensures) in
     let q = ap (λ m. length (point_of p m)) a in
-    record { p_bound = c.requires.p_bound; n_in_bounds = omega (arith, lengths (minus_of z) (decimal (nat_abs z / 10 ^ p)) (point_of p (nat_abs z)), c.requires.number_in_bounds, c.put_minus-at.ensures.len, c.put_digits-after.ensures.len) }
+    record { decimals = c.requires.decimals; room = omega (arith, lengths (minus_of z) (decimal (nat_abs z / 10 ^ p)) (point_of p (nat_abs z)), c.requires.room, c.put_minus-at.ensures.len, c.put_digits-after.ensures.len) }
 
 pub returns : goal.returns
 returns c =

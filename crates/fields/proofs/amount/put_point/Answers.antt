@@ -35,6 +35,6 @@ returns c =
           c.put_digits.ensures.after
           ∙ ap (λ k. over k ds c.put_byte-after.new.out) c.put_byte-after.ensures.len
           ∙ ap (over (at + 1) ds) c.put_byte-after.ensures.after
-          ∙ over_over at (46 ∷ []) ds out (omega (arith, c.requires.n_in_bounds))
+          ∙ over_over at (46 ∷ []) ds out (omega (arith, c.requires.room))
           ∙ ap (λ w. over at w out) e;
     }

@@ -61,7 +61,7 @@ returns-then-whole-p c =
     record { answer = no_range c.args.p (drop start bytes) (λ h. omega (arith, c.left.ensures)) f (omega (arith, s.whole_is)); place = c.drop-guard-then-whole-p.ensures }
 
 pub in_units-n-requires : goal.in_units-n-requires
-in_units-n-requires c = let f = full (at-in_units-n-requires c).After-value (placed (at-in_units-n-requires c).After-skip_run-whole) in record { p_bound = c.requires; fraction_bound = f.small }
+in_units-n-requires c = let f = full (at-in_units-n-requires c).After-value (placed (at-in_units-n-requires c).After-skip_run-whole) in record { decimals = c.requires; small = f.small }
 
 pub returns-then-is_led : goal.returns-then-is_led
 returns-then-is_led c =

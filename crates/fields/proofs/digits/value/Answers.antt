@@ -20,25 +20,25 @@ front bs at i len h k l =
     record { small = value_take i 11 (drop at bs) (omega arith) (omega arith); low = omega (arith, d.0); high = omega (arith, d.1); within = omega (arith, run_le (drop at bs), length-drop at bs); same = e }
 
 pub overflow_mul-n : goal.overflow_mul-n
-overflow_mul-n c = let f = front c.args.bytes.now c.args.at c.loop-i.i c.args.len c.requires.len_bound c.requires.len_bound_2 c.loop-i-test.true in omega (arith, c.loop-i.invariant)
+overflow_mul-n c = let f = front c.args.bytes.now c.args.at c.loop-i.i c.args.len c.requires.digits c.requires.few c.loop-i-test.true in omega (arith, c.loop-i.invariant)
 
 pub overflow_add-n : goal.overflow_add-n
-overflow_add-n c = let f = front c.args.bytes.now c.args.at c.loop-i.i c.args.len c.requires.len_bound c.requires.len_bound_2 c.loop-i-test.true in search rules
+overflow_add-n c = let f = front c.args.bytes.now c.args.at c.loop-i.i c.args.len c.requires.digits c.requires.few c.loop-i-test.true in search rules
 
 pub bounds-bytes-at : goal.bounds-bytes-at
-bounds-bytes-at c = let f = front c.args.bytes.now c.args.at c.loop-i.i c.args.len c.requires.len_bound c.requires.len_bound_2 c.loop-i-test.true in search rules
+bounds-bytes-at c = let f = front c.args.bytes.now c.args.at c.loop-i.i c.args.len c.requires.digits c.requires.few c.loop-i-test.true in search rules
 
 pub overflow_sub-n : goal.overflow_sub-n
-overflow_sub-n c = let f = front c.args.bytes.now c.args.at c.loop-i.i c.args.len c.requires.len_bound c.requires.len_bound_2 c.loop-i-test.true in omega arith
+overflow_sub-n c = let f = front c.args.bytes.now c.args.at c.loop-i.i c.args.len c.requires.digits c.requires.few c.loop-i-test.true in omega arith
 
 pub overflow_add-n-in-loop-i : goal.overflow_add-n-in-loop-i
-overflow_add-n-in-loop-i c = let f = front c.args.bytes.now c.args.at c.loop-i.i c.args.len c.requires.len_bound c.requires.len_bound_2 c.loop-i-test.true in omega (arith, c.loop-i.invariant)
+overflow_add-n-in-loop-i c = let f = front c.args.bytes.now c.args.at c.loop-i.i c.args.len c.requires.digits c.requires.few c.loop-i-test.true in omega (arith, c.loop-i.invariant)
 
 pub loop-i-preserved : goal.loop-i-preserved
 loop-i-preserved c =
     let bs = drop c.args.at c.args.bytes.now in
     let i = c.loop-i.i in
-    let f = front c.args.bytes.now c.args.at i c.args.len c.requires.len_bound c.requires.len_bound_2 c.loop-i-test.true in
+    let f = front c.args.bytes.now c.args.at i c.args.len c.requires.digits c.requires.few c.loop-i-test.true in
     ap (λ n. n * 10 + (get_or c.args.bytes.now (c.args.at + i) 0 - 48)) c.loop-i.invariant
     ∙ sym (ap value (take_more bs i 0 (omega (arith, f.within, length-drop c.args.at c.args.bytes.now))) ∙ value_push 0 (take i bs) (get_or bs i 0) ∙ ap (λ b. value (take i bs) * 10 + (b - 48)) f.same)
 
@@ -47,4 +47,4 @@ returns c =
     let bs = drop c.args.at c.args.bytes.now in
     let e : c.loop-i.i ≡ c.args.len = omega arith in
     let v = c.loop-i.invariant ∙ ap (λ k. value (take k bs)) e in
-    record { is = v; below = subst (λ n. n < 10 ^ c.args.len) (sym v) (value_take c.args.len c.args.len bs c.requires.len_bound (omega arith)); small = omega (arith, value_take c.args.len 12 bs c.requires.len_bound c.requires.len_bound_2) }
+    record { is = v; below = subst (λ n. n < 10 ^ c.args.len) (sym v) (value_take c.args.len c.args.len bs c.requires.digits (omega arith)); small = omega (arith, value_take c.args.len 12 bs c.requires.digits c.requires.few) }
