@@ -7,9 +7,9 @@ mod rows_command;
 
 use crate::field_command::read_field;
 use crate::rows_command::list_rows;
-use anyhow::anyhow;
 use cli::problems::{Problem, problem_text};
 use std::env;
+use std::process::ExitCode;
 
 // How a command ended: it is done, or a problem was told on standard error.
 #[derive(Clone, Copy)]
@@ -83,13 +83,15 @@ fn words_of(rt: &HostRuntime) -> anyhow::Result<Vec<String>> {
     Ok(words)
 }
 
-fn main(rt: HostRuntime) -> anyhow::Result<()> {
+// A problem ends the program with status 1, and so does an error, which is told first.
+fn main(rt: HostRuntime) -> ExitCode {
     match run(&rt) {
-        Ok(Outcome::Done) => Ok(()),
-        Ok(Outcome::Stopped) => Err(anyhow!("stopped")),
+        Ok(Outcome::Done) => ExitCode::SUCCESS,
+        Ok(Outcome::Stopped) => ExitCode::FAILURE,
         Err(error) => {
-            eprintln!(rt; "neskvaru: {error}")?;
-            Err(error)
+            // where standard error cannot be written to, there is nobody left to tell
+            let _ = eprintln!(rt; "neskvaru: {error}");
+            ExitCode::FAILURE
         }
     }
 }
