@@ -1,7 +1,7 @@
 -- What a stored report is.
 use Rattle.std.specs.Prelude.{◌≡◌, [], vec_items}
 use Rattle.report.specs.Reports as defined
-use Rattle.store.specs.declared.report.Report.{Report}
+use Rattle.store.specs.declared.memory.Report.{Report}
 
 -- its lines and kept text
 abbrev pub report_of : Report → defined.Report

@@ -1,4 +1,4 @@
 // The memory of a report: taken once, and used for one row after another.
 #![tactic(auto)]
 
-pub mod report;
+pub mod memory;

@@ -2,7 +2,7 @@
 ghost use Rattle.std.specs.Prelude.{◌≡◌, IfOk};
 ghost use Rattle.store.specs.Stored.{Cleared};
 
-use crate::report::Report;
+use crate::memory::Report;
 use std::alloc::{AllocError, Global};
 
 // The most lines that may stand at one time in a reading.
