@@ -98,9 +98,9 @@ pub record Parts (bs : List ℕ) (y m d : ℕ) : Type 0 where
   pub months : m ≡ month bs
   pub days_of : d ≡ day bs
 
-pub parts_at_lem : (bs : List ℕ) (start a b c e y m d : ℕ) → (all_at start 4 bs ≡ true) × (y ≡ value (digits_at start 4 bs)) × (a ≡ start + 4) → (slice_index (drop a bs) 0 ≡ 45) × (b ≡ a + 1) →
+pub parts_at : (bs : List ℕ) (start a b c e y m d : ℕ) → (all_at start 4 bs ≡ true) × (y ≡ value (digits_at start 4 bs)) × (a ≡ start + 4) → (slice_index (drop a bs) 0 ≡ 45) × (b ≡ a + 1) →
     (all_at b 2 bs ≡ true) × (m ≡ value (digits_at b 2 bs)) × (c ≡ b + 2) → (slice_index (drop c bs) 0 ≡ 45) × (e ≡ c + 1) → (all_at e 2 bs ≡ true) × (d ≡ value (digits_at e 2 bs)) → Parts (drop start bs) y m d
-parts_at_lem bs start a b c e y m d hy h1 hm h2 hd =
+parts_at bs start a b c e y m d hy h1 hm h2 hd =
     let pb : b ≡ start + 5 = omega arith in
     let pc : c ≡ start + 7 = omega arith in
     let pe : e ≡ start + 8 = omega arith in

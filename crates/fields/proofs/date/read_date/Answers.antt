@@ -10,7 +10,7 @@ use Rattle.fields.specs.Calendar.{is_date}
 use Rattle.fields.specs.Dates.{formed, year, month, day, date, date_tests, date_gives}
 use Rattle.fields.specs.Fairs.{refused}
 use Rattle.fields.specs.Runs.{byte_at}
-use Rattle.fields.specs.DateLaw.{not_formed, no_form, no_date, good_date, all_at_lem, parts_at_lem}
+use Rattle.fields.specs.DateLaw.{not_formed, no_form, no_date, good_date, all_at_lem, parts_at}
 use Rattle.fields.proofs.date.read_date.Goals as goal
 
 pub returns-then-left-lt10 : goal.returns-then-left-lt10
@@ -68,7 +68,7 @@ pub returns-then-not-is_date : goal.returns-then-not-is_date
 returns-then-not-is_date c =
     let bytes = c.args.bytes.now in
     let start = c.args.cursor.now.place in
-    let t = parts_at_lem bytes start _ _ _ _ _ _ _ c.in_ok-year.ensures c.in_ok-take_byte.ensures c.in_ok-month.ensures c.in_ok-take_byte-2.ensures (c.in_ok-day.ensures.0, c.in_ok-day.ensures.1) in
+    let t = parts_at bytes start _ _ _ _ _ _ _ c.in_ok-year.ensures c.in_ok-take_byte.ensures c.in_ok-month.ensures c.in_ok-take_byte-2.ensures (c.in_ok-day.ensures.0, c.in_ok-day.ensures.1) in
     let y = t.years in
     let m = t.months in
     let d = t.days_of in
@@ -79,7 +79,7 @@ pub returns : goal.returns
 returns c =
     let bytes = c.args.bytes.now in
     let start = c.args.cursor.now.place in
-    let t = parts_at_lem bytes start _ _ _ _ _ _ _ c.in_ok-year.ensures c.in_ok-take_byte.ensures c.in_ok-month.ensures c.in_ok-take_byte-2.ensures (c.in_ok-day.ensures.0, c.in_ok-day.ensures.1) in
+    let t = parts_at bytes start _ _ _ _ _ _ _ c.in_ok-year.ensures c.in_ok-take_byte.ensures c.in_ok-month.ensures c.in_ok-take_byte-2.ensures (c.in_ok-day.ensures.0, c.in_ok-day.ensures.1) in
     let n = c.number.result in
     let fits : SFits w64 n = search rules in
     let y = t.years in
