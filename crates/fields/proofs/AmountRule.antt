@@ -7,7 +7,7 @@ use Rattle.fields.specs.Digits.{run, value, padded}
 use Rattle.fields.specs.Wholes.{leads}
 use Rattle.fields.specs.Amounts.{minus, sign, body, rest, pointed, point_len, formed, units, signed, amount_tests, amount_gives, amount_spells, amount, point_of}
 use Rattle.fields.specs.Spellings.{ReadsSpelling, Units, NoDigit}
-use Rattle.fields.specs.Writes.{length_padded}
+use Rattle.fields.specs.Runs.{length_padded}
 use Rattle.fields.specs.AmountLaw.{pow_pos, good_amount, length_amount, amount_lawful, body_parts}
 use Rattle.fields.proofs.Stand.{tried_inv, stands, run_rest, run_append, pure_padded, value_padded}
 use Rattle.fields.proofs.WholeRule.{decimal_before}

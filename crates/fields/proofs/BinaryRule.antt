@@ -15,7 +15,7 @@ use Rattle.fields.proofs.Stand.{tried_inv, stands}
 big_before : (p n : ℕ) (rest : List ℕ) → n < 256 ^ p → (p ≤ length (octets p n ++ rest)) × (big (take p (octets p n ++ rest)) ≡ n)
 big_before p n rest h = (
   omega (arith, length-append (octets p n) rest, length_octets p n),
-  ap big (take_at (octets p n) rest p (length_octets p n)) ∙ number_places 256 (λ b. b) (λ d. d) (λ d k. refl) (omega arith) p n h,
+  ap big (take_at (octets p n) rest p (length_octets p n)) ∙ number_places 256 0 (omega arith) p n h,
 )
 
 -- what was read is below the power of 256

@@ -7,7 +7,7 @@ use Rattle.fields.specs.Digits.{run, value, padded}
 use Rattle.fields.specs.Calendar.{days, is_date}
 use Rattle.fields.specs.Dates.{formed, year, month, day, date_tests, date_gives, date_spells, date}
 use Rattle.fields.specs.Spellings.{Stands, ReadsSpelling, DateNumber, Anywhere}
-use Rattle.fields.specs.Writes.{length_padded}
+use Rattle.fields.specs.Runs.{length_padded}
 use Rattle.fields.specs.DateLaw.{date_lawful, good_date}
 use Rattle.fields.proofs.Stand.{tried_inv, stands, run_append, pure_padded, value_padded}
 

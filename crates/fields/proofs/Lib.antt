@@ -4,3 +4,4 @@ pub mod WholeRule
 pub mod AmountRule
 pub mod DateRule
 pub mod BinaryRule
+pub mod CursorLaws

@@ -1,16 +1,16 @@
 -- What a good reading tells of its tests, and runs of digits before other bytes.
-use Rattle.std.proofs.Common.{◌≡◌, ℕ, zero, suc, ◌+◌, ◌-◌, ◌/◌, ◌%◌, ◌^◌, ◌<◌, Bool, true, false, List, [], ◌∷◌, ◌++◌, length, drop, ℤ, Ok, sym, refl, ap, ◌∙◌, arith}
+use Rattle.std.proofs.Common.{◌≡◌, ℕ, zero, suc, ◌+◌, ◌/◌, ◌%◌, ◌^◌, ◌<◌, Bool, true, false, cond, List, [], ◌∷◌, ◌++◌, length, drop, ℤ, Ok, sym, refl, ap, ◌∙◌, arith}
 use Rattle.std.proofs.lemmas.List.{take-append-drop, length-take-le}
 use Rattle.fields.specs.declared.cause.Cause.{Cause}
 use Rattle.fields.specs.declared.cause.Sort.TheVariants.{Numeric}
 use Rattle.fields.specs.Meanings.{Reading, Meaning, refuse, tried}
 use Rattle.fields.specs.Laws.{Bytes, Lawful}
-use Rattle.fields.specs.Digits.{is_digit, more, front, run, value, padded}
+use Rattle.fields.specs.Digits.{is_digit, run, AreDigits, value, padded}
 use Rattle.fields.specs.Spellings.{Stands}
 use Rattle.fields.specs.Fairs.{Passed}
-use Rattle.fields.specs.Runs.{Pure, tells, digit_true}
+use Rattle.fields.specs.Runs.{tells, digit_true}
 use Rattle.fields.specs.PlaceValues.{number_places}
-use Rattle.fields.specs.Writes.{length_padded}
+use Rattle.fields.specs.Runs.{length_padded}
 
 refuse_inv : (t : Bool) (c : Cause) (r : Reading) (y : ℕ × ℤ) → refuse t c r ≡ Ok y → (t ≡ false) × (r ≡ Ok y)
 refuse_inv true c r y e = let z : ◌≡◌ {A = ℕ} 0 1 = cc in absurd (omega arith)
@@ -37,32 +37,29 @@ stands m Has Ends law s bs n z b e h k =
     }
 
 -- nothing of a run is left behind it
-front_done : (t : ℕ → Bool) (u : Bool) (b : ℕ) (bs : List ℕ) → t b ≡ u → front t (drop (front t bs) bs) ≡ 0 → front t (drop (more u (front t bs)) (b ∷ bs)) ≡ 0
-front_done t true b bs e h = h
-front_done t false b bs e h = ap (λ x. more x (front t bs)) e
-
-pub front_rest : (t : ℕ → Bool) (bs : List ℕ) → front t (drop (front t bs) bs) ≡ 0
-front_rest t [] = refl
-front_rest t (b ∷ bs) = front_done t (t b) b bs refl (front_rest t bs)
+run_done : (u : Bool) (b : ℕ) (bs : List ℕ) → is_digit b ≡ u → run (drop (run bs) bs) ≡ 0 → run (drop (cond u (1 + run bs) 0) (b ∷ bs)) ≡ 0
+run_done true b bs e h = let k : 1 + run bs ≡ suc (run bs) = omega arith in ap (λ j. run (drop j (b ∷ bs))) k ∙ h
+run_done false b bs e h = ap (λ x. cond x (1 + run bs) 0) e
 
 pub run_rest : (bs : List ℕ) → run (drop (run bs) bs) ≡ 0
-run_rest bs = front_rest is_digit bs
+run_rest [] = refl
+run_rest (b ∷ bs) = run_done (is_digit b) b bs refl (run_rest bs)
 
 -- digits before other bytes
-pub run_append : (ds bs : List ℕ) → Pure ds → run (ds ++ bs) ≡ length ds + run bs
+pub run_append : (ds bs : List ℕ) → AreDigits ds → run (ds ++ bs) ≡ length ds + run bs
 run_append [] bs h = omega arith
 run_append (d ∷ ds) bs h =
     let t = tells.parts d ds h in
-    ap (λ x. more x (run (ds ++ bs))) (digit_true d t.0) ∙ ap suc (run_append ds bs t.1) ∙ omega arith
+    ap (λ x. cond x (1 + run (ds ++ bs)) 0) (digit_true d t.0) ∙ omega (arith, run_append ds bs t.1)
 
-pub pure_padded : (w n : ℕ) → Pure (padded w n)
+pub pure_padded : (w n : ℕ) → AreDigits (padded w n)
 pure_padded zero n = refl
 pure_padded (suc w) n =
     let ds = padded w (n / 10) in
     let d : is_digit (48 + n % 10) ≡ true = digit_true (48 + n % 10) (omega arith, omega arith) in
     run_append ds ((48 + n % 10) ∷ []) (pure_padded w (n / 10))
-    ∙ ap (λ x. length ds + more x 0) d
+    ∙ ap (λ x. length ds + cond x 1 0) d
     ∙ omega (arith, length_padded w (n / 10), length_padded (suc w) n)
 
 pub value_padded : (w n : ℕ) → n < 10 ^ w → value (padded w n) ≡ n
-value_padded w n h = number_places 10 (λ b. b - 48) (λ d. 48 + d) (λ d k. omega arith) (omega arith) w n h
+value_padded w n h = number_places 10 48 (omega arith) w n h

@@ -1,11 +1,11 @@
 -- An amount is spelled with the bytes that it was read from.
-use Rattle.std.specs.Prelude.{◌≡◌, ℕ, zero, suc, ◌+◌, ◌-◌, ◌*◌, ◌/◌, ◌%◌, ◌^◌, ◌<◌, ◌≤◌, Bool, true, false, cond, ◌&&◌, ◌||◌, List, [], ◌∷◌, ◌++◌, length, take, drop, ℤ, Ok, Err, decimal, ◌==◌, ◌≢◌, nat_eq, nat_lt, slice_index, unsigned_abs, refl}
+use Rattle.std.specs.Prelude.{◌≡◌, ℕ, zero, suc, ◌+◌, ◌-◌, ◌*◌, ◌/◌, ◌%◌, ◌^◌, ◌<◌, ◌≤◌, Bool, true, false, cond, ◌&&◌, ◌||◌, List, [], ◌∷◌, ◌++◌, length, take, drop, ℤ, Ok, Err, decimal, ◌==◌, ◌≢◌, nat_lt, slice_index, unsigned_abs, refl}
 use Rattle.std.proofs.Common.{sym, ap, ◌∙◌, mul-le-mul_right, suc-mul, arith, length-append, pow-add, take-add}
 use Rattle.std.proofs.Math.Nat.{pow-le-pow_right, one-le-pow}
 use Rattle.std.proofs.lemmas.List.{length-take-le, length-drop}
-use Rattle.std.proofs.lemmas.Bool.{eqb-true, eqb-false, ltb-true, ltb-false, and_parts, or_parts, and_from, not-false, not_from_true, not_from_false, eq-eqb, ne_eqb, lt-ltb, le-ltb}
+use Rattle.std.proofs.lemmas.Bool.{eqb-true, eqb-false, ltb-true, ltb-false, and_parts, or_parts, and_from, not-false, not_from_true, not_from_false, ne_eqb, lt-ltb, le-ltb}
 use Rattle.std.proofs.lemmas.Bool.Decides.{nat_tests}
-use Rattle.fields.specs.declared.cause.Cause.TheVariants.{Form, Range, SecondSpelling}
+use Rattle.fields.specs.declared.cause.Cause.TheVariants.{Form}
 use Rattle.fields.specs.declared.cause.Sort.TheVariants.{Numeric}
 use Rattle.fields.specs.Meanings.{Reading}
 use Rattle.fields.specs.Laws.{Lawful}
@@ -14,9 +14,9 @@ use Rattle.fields.specs.Wholes.{leads}
 use Rattle.fields.specs.Amounts.{minus, sign, body, rest, pointed, point_len, formed, signed, units, amount_tests, amount_gives, amount_spells, amount, minus_of, point_of}
 use Rattle.fields.specs.PlaceValues.{joined_front, joined_back}
 use Rattle.fields.specs.Fairs.{kind_lawful, refused, good}
-use Rattle.fields.specs.Runs.{run_le, run_take, value_take, padded_value, part_at}
+use Rattle.fields.specs.Runs.{run_le, run_take, value_take, padded_value}
 use Rattle.fields.specs.WholeLaw.{run_decimal}
-use Rattle.fields.specs.Writes.{length_padded}
+use Rattle.fields.specs.Runs.{length_padded}
 
 pub pow_pos : (p : ℕ) → 0 < 10 ^ p
 pow_pos p = omega (arith, one-le-pow p 10 (omega arith))
@@ -39,18 +39,6 @@ pointed_len zero bs h = omega arith
 pointed_len (suc p) bs h =
     let t = and_parts (slice_index bs 0 == 46) (run (drop 1 bs) == suc p) h in
     omega (arith, eqb-true _ _ t.1, run_le (drop 1 bs), length-drop 1 bs)
-
-pub point_is : (p r : ℕ) (bs : List ℕ) → (p ≢ 0) → slice_index bs 0 ≡ 46 → r ≡ run (drop 1 bs) → (r == p) ≡ pointed p bs
-point_is zero r bs z h e = absurd (z refl)
-point_is (suc p) r bs z h e = ap (λ k. nat_eq k (suc p)) e ∙ ap (λ t. t && run (drop 1 bs) == suc p) (sym (eq-eqb (slice_index bs 0) 46 h))
-
-pub point_len_lem : (p : ℕ) → (p ≢ 0) → point_len p ≡ 1 + p
-point_len_lem zero z = absurd (z refl)
-point_len_lem (suc p) z = omega arith
-
-pub point_none : (p : ℕ) (bs : List ℕ) → p ≡ 0 → (pointed p bs ≡ true) × (0 ≡ value (take p (drop 1 bs))) × (point_len p ≡ 0)
-point_none zero bs z = (refl, refl, refl)
-point_none (suc p) bs z = absurd (omega arith)
 
 pub pointed_run : (p : ℕ) (bs : List ℕ) → pointed p bs ≡ true → p ≤ run (drop 1 bs)
 pointed_run zero bs h = omega arith
@@ -127,27 +115,24 @@ amount_lawful p = kind_lawful Numeric (amount_tests p) (amount_gives p) (amount_
           ∙ sym (take-add (sign bs) (run b + point_len p) bs),
     )
 
--- the sign, the first run and what follows it, at their places
-pub record Split (bytes : List ℕ) (start front whole at : ℕ) : Type 0 where
-  pub sign_is : front ≡ start + sign (drop start bytes)
-  pub body_is : drop front bytes ≡ body (drop start bytes)
-  pub whole_is : whole ≡ run (body (drop start bytes))
-  pub rest_is : drop at bytes ≡ rest (body (drop start bytes))
+-- what follows the sign, its first run and what follows that
+pub record Split (bs front after : List ℕ) (whole : ℕ) : Type 0 where
+  pub body_is : front ≡ body bs
+  pub whole_is : whole ≡ run (body bs)
+  pub rest_is : after ≡ rest (body bs)
 
-pub split : (bytes : List ℕ) (start front whole at : ℕ) (t : Bool) → t ≡ minus (drop start bytes) → front ≡ start + cond t 1 0 → whole ≡ run (drop front bytes) → at ≡ front + whole → Split bytes start front whole at
-split bytes start front whole at t m f w a =
-    let bs = drop start bytes in
-    let s : front ≡ start + sign bs = f ∙ ap (λ b. start + cond b 1 0) m in
-    let b : drop front bytes ≡ body bs = part_at bytes start (sign bs) front s in
+pub split : (bs front after : List ℕ) (whole : ℕ) (t : Bool) → t ≡ minus bs → front ≡ drop (cond t 1 0) bs → whole ≡ run front → after ≡ drop whole front → Split bs front after whole
+split bs front after whole t m f w a =
+    let b : front ≡ body bs = f ∙ ap (λ u. drop (cond u 1 0) bs) m in
     let r : whole ≡ run (body bs) = w ∙ ap run b in
-    record { sign_is = s; body_is = b; whole_is = r; rest_is = part_at bytes front whole at a ∙ ap (drop whole) b ∙ ap (λ k. drop k (body bs)) r }
+    record { body_is = b; whole_is = r; rest_is = a ∙ ap (drop whole) b ∙ ap (λ k. drop k (body bs)) r }
 
-pub formed_at : (p : ℕ) (bytes : List ℕ) (start front whole at : ℕ) → Split bytes start front whole at → (whole ≢ 0) → pointed p (drop at bytes) ≡ true → formed p (body (drop start bytes)) ≡ true
-formed_at p bytes start front whole at s w h = and_from _ _ (lt-ltb 0 _ (omega (arith, s.whole_is))) (sym (ap (pointed p) s.rest_is) ∙ h)
+pub formed_at : (p : ℕ) (bs front after : List ℕ) (whole : ℕ) → Split bs front after whole → (whole ≢ 0) → pointed p after ≡ true → formed p (body bs) ≡ true
+formed_at p bs front after whole s w h = and_from _ _ (lt-ltb 0 _ (omega (arith, s.whole_is))) (sym (ap (pointed p) s.rest_is) ∙ h)
 
-pub units_at : (p : ℕ) (bytes : List ℕ) (start front whole at v f : ℕ) → Split bytes start front whole at → v ≡ value (take whole (drop front bytes)) → f ≡ value (take p (drop 1 (drop at bytes))) → v * 10 ^ p + f ≡ units p (body (drop start bytes))
-units_at p bytes start front whole at v f s hv hf =
-    let b = body (drop start bytes) in
+pub units_at : (p : ℕ) (bs front after : List ℕ) (whole v f : ℕ) → Split bs front after whole → v ≡ value (take whole front) → f ≡ value (take p (drop 1 after)) → v * 10 ^ p + f ≡ units p (body bs)
+units_at p bs front after whole v f s hv hf =
+    let b = body bs in
     let a : v ≡ value (take (run b) b) = hv ∙ ap (λ x. value (take whole x)) s.body_is ∙ ap (λ k. value (take k b)) s.whole_is in
     let c : f ≡ value (take p (drop 1 (rest b))) = hf ∙ ap (λ x. value (take p (drop 1 x))) s.rest_is in
     cc
@@ -155,12 +140,6 @@ units_at p bytes start front whole at v f s hv hf =
 -- ways that a reading ends
 pub no_form : (p : ℕ) (bs : List ℕ) → (length bs ≢ 0) → formed p (body bs) ≡ false → ◌≡◌ {A = Reading} (Err Form) ((amount p).reads bs)
 no_form p bs some f = refused 1 (amount_tests p bs) (amount_gives p bs) Form (ne_eqb _ _ some, (not_from_false _ f, refl))
-
-pub no_range : (p : ℕ) (bs : List ℕ) → (length bs ≢ 0) → formed p (body bs) ≡ true → 12 < run (body bs) + p → ◌≡◌ {A = Reading} (Err Range) ((amount p).reads bs)
-no_range p bs some f h = refused 2 (amount_tests p bs) (amount_gives p bs) Range (ne_eqb _ _ some, (not_from_true _ f, (lt-ltb 12 _ h, refl)))
-
-pub second_spelling : (p : ℕ) (bs : List ℕ) → (length bs ≢ 0) → formed p (body bs) ≡ true → run (body bs) + p ≤ 12 → (leads (body bs) || (minus bs && units p (body bs) == 0)) ≡ true → ◌≡◌ {A = Reading} (Err SecondSpelling) ((amount p).reads bs)
-second_spelling p bs some f h s = refused 3 (amount_tests p bs) (amount_gives p bs) SecondSpelling (ne_eqb _ _ some, (not_from_true _ f, (le-ltb 12 _ h, (s, refl))))
 
 pub good_amount : (p : ℕ) (bs : List ℕ) → (length bs ≢ 0) → formed p (body bs) ≡ true → run (body bs) + p ≤ 12 → (leads (body bs) || (minus bs && units p (body bs) == 0)) ≡ false → ◌≡◌ {A = Reading} (Ok (amount_gives p bs)) ((amount p).reads bs)
 good_amount p bs some f h s = good (amount_tests p bs) (amount_gives p bs) (ne_eqb _ _ some, (not_from_true _ f, (le-ltb 12 _ h, (s, tt))))

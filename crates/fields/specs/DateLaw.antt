@@ -11,7 +11,7 @@ use Rattle.fields.specs.Digits.{run, value, padded, digits_at, all_at}
 use Rattle.fields.specs.Calendar.{is_date}
 use Rattle.fields.specs.Dates.{formed, year, month, day, date_tests, date_gives, date_spells, date}
 use Rattle.fields.specs.Fairs.{kind_lawful, refused, good}
-use Rattle.fields.specs.Runs.{padded_value, run_le, run_take, value_take, part_at, byte_at}
+use Rattle.fields.specs.Runs.{padded_value, run_le, run_take, value_take, first_of}
 
 take_one : (i : ℕ) (bs : List ℕ) → i < length bs → take 1 (drop i bs) ≡ slice_index bs i ∷ []
 take_one i bs h = ap (take 1) (drop_more bs i 0 h)
@@ -85,28 +85,18 @@ no_date bs l h d = refused 2 (date_tests bs) (date_gives bs) Range (le-ltb (leng
 pub good_date : (bs : List ℕ) → 10 ≤ length bs → formed bs ≡ true → is_date (year bs) (month bs) (day bs) ≡ true → ◌≡◌ {A = Reading} (Ok (date_gives bs)) (date.reads bs)
 good_date bs l h d = good (date_tests bs) (date_gives bs) (le-ltb (length bs) 10 l, (not_from_true (formed bs) h, (not_from_true _ d, tt)))
 
--- the parts of a date at their places
-pub all_at_lem : (bs : List ℕ) (start k n at : ℕ) → at ≡ start + k → all_at at n bs ≡ all_at k n (drop start bs)
-all_at_lem bs start k n at e = ap (λ x. nat_le n (run x)) (part_at bs start k at e)
-
-pub value_at : (bs : List ℕ) (start k n at : ℕ) → at ≡ start + k → value (digits_at at n bs) ≡ value (digits_at k n (drop start bs))
-value_at bs start k n at e = ap (λ x. value (take n x)) (part_at bs start k at e)
-
+-- the parts of a date, where they stand
 pub record Parts (bs : List ℕ) (y m d : ℕ) : Type 0 where
   pub form : formed bs ≡ true
   pub years : y ≡ year bs
   pub months : m ≡ month bs
   pub days_of : d ≡ day bs
 
-pub parts_at : (bs : List ℕ) (start a b c e y m d : ℕ) → (all_at start 4 bs ≡ true) × (y ≡ value (digits_at start 4 bs)) × (a ≡ start + 4) → (slice_index (drop a bs) 0 ≡ 45) × (b ≡ a + 1) →
-    (all_at b 2 bs ≡ true) × (m ≡ value (digits_at b 2 bs)) × (c ≡ b + 2) → (slice_index (drop c bs) 0 ≡ 45) × (e ≡ c + 1) → (all_at e 2 bs ≡ true) × (d ≡ value (digits_at e 2 bs)) → Parts (drop start bs) y m d
-parts_at bs start a b c e y m d hy h1 hm h2 hd =
-    let pb : b ≡ start + 5 = omega arith in
-    let pc : c ≡ start + 7 = omega arith in
-    let pe : e ≡ start + 8 = omega arith in
-    record {
-      form = and_from _ _ (sym (all_at_lem bs start 0 4 start (omega arith)) ∙ hy.0) (and_from _ _ (eq-eqb _ _ (sym (byte_at bs start 4 a hy.2) ∙ h1.0)) (and_from _ _ (sym (all_at_lem bs start 5 2 b pb) ∙ hm.0) (and_from _ _ (eq-eqb _ _ (sym (byte_at bs start 7 c pc) ∙ h2.0)) (sym (all_at_lem bs start 8 2 e pe) ∙ hd.0))));
-      years = hy.1 ∙ value_at bs start 0 4 start (omega arith);
-      months = hm.1 ∙ value_at bs start 5 2 b pb;
-      days_of = hd.1 ∙ value_at bs start 8 2 e pe;
-    }
+pub parts_at : (bs b c d e : List ℕ) (y m k : ℕ) → b ≡ drop 4 bs → c ≡ drop 5 bs → d ≡ drop 7 bs → e ≡ drop 8 bs → (all_at 0 4 bs ≡ true) × (y ≡ value (take 4 bs)) → slice_index b 0 ≡ 45 →
+    (all_at 0 2 c ≡ true) × (m ≡ value (take 2 c)) → slice_index d 0 ≡ 45 → (all_at 0 2 e ≡ true) × (k ≡ value (take 2 e)) → Parts bs y m k
+parts_at bs b c d e y m k hb hc hd he hy h1 hm h2 hk = record {
+  form = and_from _ _ hy.0 (and_from _ _ (eq-eqb _ _ (first_of bs b 4 hb ∙ h1)) (and_from _ _ (sym (ap (λ x. nat_le 2 (run x)) hc) ∙ hm.0) (and_from _ _ (eq-eqb _ _ (first_of bs d 7 hd ∙ h2)) (sym (ap (λ x. nat_le 2 (run x)) he) ∙ hk.0))));
+  years = hy.1;
+  months = hm.1 ∙ ap (λ x. value (take 2 x)) hc;
+  days_of = hk.1 ∙ ap (λ x. value (take 2 x)) he;
+}

@@ -1,33 +1,29 @@
 -- Runs of decimal digits, the number that digits write, and digits of a fixed width.
-use Rattle.std.specs.Prelude.{ℕ, suc, ◌+◌, ◌-◌, Bool, true, false, ◌&&◌, List, [], ◌∷◌, take, drop, nat_le}
+use Rattle.std.specs.Prelude.{◌≡◌, ℕ, Bool, ◌&&◌, List, length, take, drop, nat_le}
+use Rattle.std.specs.List.{prefix_len}
 use Rattle.fields.specs.Places.{number_on, places}
 
 abbrev pub is_digit : ℕ → Bool
 is_digit b = nat_le 48 b && nat_le b 57
 
-abbrev pub more : Bool → ℕ → ℕ
-more true n = suc n
-more false n = 0
-
--- how many bytes at the beginning pass a test, one after another
-abbrev pub front : (ℕ → Bool) → List ℕ → ℕ
-front t [] = 0
-front t (b ∷ bs) = more (t b) (front t bs)
-
 -- how long the longest run of digits at the beginning is
 abbrev pub run : List ℕ → ℕ
-run bs = front is_digit bs
+run bs = prefix_len is_digit bs
+
+-- every byte is a digit
+abbrev pub AreDigits : List ℕ → Type 0
+AreDigits ds = run ds ≡ length ds
 
 -- the number that digits write, after those of n
 abbrev pub value_on : ℕ → List ℕ → ℕ
-value_on n ds = number_on 10 (λ b. b - 48) n ds
+value_on n ds = number_on 10 48 n ds
 
 abbrev pub value : List ℕ → ℕ
 value ds = value_on 0 ds
 
 -- the last w digits of n
 abbrev pub padded : ℕ → ℕ → List ℕ
-padded w n = places 10 (λ d. 48 + d) w n
+padded w n = places 10 48 w n
 
 -- n bytes at a place
 abbrev pub digits_at : ℕ → ℕ → List ℕ → List ℕ

@@ -1,6 +1,7 @@
 -- The definitions that the contracts of the field families cite.
 pub mod Causes
 pub mod Meanings
+pub mod Cursors
 pub mod Laws
 pub mod Buffers
 pub mod Places
@@ -11,9 +12,9 @@ pub mod Texts
 pub mod Calendar
 pub mod Dates
 pub mod Octets
+pub mod BinaryKinds
 pub mod Kinds
 pub mod Pairs
-pub mod Chosen
 pub mod Known
 pub mod Examples
 pub mod Spellings
@@ -23,7 +24,6 @@ pub mod WholeLaw
 pub mod Runs
 pub mod PlaceValues
 pub mod AmountLaw
-pub mod Writes
 pub mod TextLaw
 pub mod DateLaw
 pub mod BigBytes

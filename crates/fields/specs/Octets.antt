@@ -8,11 +8,11 @@ use Rattle.fields.specs.Meanings.{Meaning, kind, unknown}
 
 -- the number that bytes make
 abbrev pub big : List ℕ → ℕ
-big bs = number_on 256 (λ b. b) 0 bs
+big bs = number_on 256 0 0 bs
 
 -- the last w bytes of n
 abbrev pub octets : ℕ → ℕ → List ℕ
-octets w n = places 256 (λ d. d) w n
+octets w n = places 256 0 w n
 
 -- two's complement below a power of two, and back
 abbrev pub twos : ℕ → ℕ → ℤ

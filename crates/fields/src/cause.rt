@@ -1,22 +1,25 @@
 // Why a field cannot be read, and what sort of kind it has.
-ghost use Rattle.std.specs.Prelude.{◌≡◌};
-ghost use Rattle.fields.specs.Causes.{number_of};
+ghost use Rattle.std.specs.Prelude.{◌≡◌, Some};
+ghost use Rattle.fields.specs.Causes.{number_of, reason};
 
-// Why a field cannot be read.
-#[derive(Clone, Copy)]
+use std::error::Error;
+use std::fmt;
+
+// Why a field cannot be read, with its number in reports.
+#[derive(Clone, Copy, PartialEq, Eq, Debug)]
 pub enum Cause {
     // The bytes end too soon.
-    Short,
+    Short = 1,
     // The bytes have another form.
-    Form,
+    Form = 2,
     // The number is too large, or there is no such date.
-    Range,
+    Range = 3,
     // The number has another spelling, which is the only one that is read.
-    SecondSpelling,
+    SecondSpelling = 4,
 }
 
 // What a kind with its parameter is.
-#[derive(Clone, Copy)]
+#[derive(Clone, Copy, PartialEq, Eq, Debug)]
 pub enum Sort {
     // The family does not know it.
     Unknown,
@@ -31,11 +34,21 @@ impl Cause {
     pub fn number(self) -> u8
         ensures { result ≡ number_of self }
     {
-        match self {
-            Cause::Short => 1,
-            Cause::Form => 2,
-            Cause::Range => 3,
-            Cause::SecondSpelling => 4,
-        }
+        self as u8
     }
 }
+
+impl fmt::Display for Cause {
+    ghost output = { λ c. Some (reason c) };
+
+    fn fmt<W: fmt::Write>(&self, f: &mut fmt::Formatter<W>) -> fmt::Result {
+        f.write_str(match self {
+            Cause::Short => "the bytes end too soon",
+            Cause::Form => "the bytes have another form",
+            Cause::Range => "too large, or no such date",
+            Cause::SecondSpelling => "a second spelling of the number",
+        })
+    }
+}
+
+impl Error for Cause {}

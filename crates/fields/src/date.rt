@@ -1,13 +1,13 @@
 // Dates of ten bytes, YYYY-MM-DD.
-ghost use Rattle.std.specs.Prelude.{◌≡◌, ◌≤◌, length, drop};
-ghost use Rattle.fields.specs.Buffers.{laid};
+ghost use Rattle.std.specs.Prelude.{◌≡◌};
 ghost use Rattle.fields.specs.Calendar.{leap, days, is_date};
-ghost use Rattle.fields.specs.Meanings.{moved};
+ghost use Rattle.fields.specs.Cursors.{unread, Moved};
 ghost use Rattle.fields.specs.Dates.{date, date_spells};
 
 use crate::cause::Cause;
 use crate::cursor::{Cursor, Guard};
-use crate::digits::{number, put_byte, put_digits};
+use crate::digits::number;
+use crate::spelling::{Spelling, add, add_digits};
 
 fn is_leap(year: u64) -> bool
     ensures { result ≡ leap year }
@@ -34,41 +34,38 @@ fn is_date(year: u64, month: u64, day: u64) -> bool
     year >= 1900 && year <= 2199 && day >= 1 && day <= days_in(year, month)
 }
 
-pub(crate) fn read_date(bytes: &[u8], cursor: &mut Cursor) -> Result<(usize, i64), Cause>
-    ensures answer { result ≡ date.reads (drop cursor.old.place bytes.now) }
-    ensures place { cursor.new.place ≡ moved cursor.old.place result }
+pub(crate) fn read_date(cursor: &mut Cursor) -> Result<(usize, i64), Cause>
+    ensures answer { result ≡ date.reads (unread cursor.old) }
+    ensures place { Moved result cursor.old cursor.new }
 {
-    let start = cursor.place;
-    let mut guard = Guard {
-        cursor,
-        start,
-        armed: true,
-    };
-    if guard.cursor.left(bytes) < 10 {
+    let rest = cursor.rest();
+    let back = Some(cursor.place);
+    let mut guard = Guard { cursor, back };
+    if rest.len() < 10 {
         return Err(Cause::Short);
     }
-    let year = guard.cursor.take_digits(bytes, 4)?;
-    guard.cursor.take_byte(bytes, b'-')?;
-    let month = guard.cursor.take_digits(bytes, 2)?;
-    guard.cursor.take_byte(bytes, b'-')?;
-    let day = guard.cursor.take_digits(bytes, 2)?;
+    let year = guard.cursor.take_digits(4)?;
+    guard.cursor.take_byte(b'-')?;
+    let month = guard.cursor.take_digits(2)?;
+    guard.cursor.take_byte(b'-')?;
+    let day = guard.cursor.take_digits(2)?;
     if !is_date(year, month, day) {
         return Err(Cause::Range);
     }
-    guard.armed = false;
+    guard.back = None;
     Ok((10, number(10000 * year + 100 * month + day)))
 }
 
-// Writes a date at the beginning of a buffer.
-pub(crate) fn put_date(number: i64, out: &mut [u8]) -> usize
-    requires { length (date_spells number) ≤ length out.old }
-    ensures len { result ≡ length (date_spells number) }
-    ensures after { out.new ≡ laid (date_spells number) out.old }
+// The ten bytes of a date.
+pub(crate) fn spell_date(number: i64) -> Spelling
+    ensures { result.items ≡ date_spells number }
 {
     let n = number.unsigned_abs();
-    let at_mark = put_digits(n / 10000, 4, out, 0);
-    let at_month = put_byte(b'-', out, at_mark);
-    let at_second = put_digits(n / 100 % 100, 2, out, at_month);
-    let at_day = put_byte(b'-', out, at_second);
-    put_digits(n % 100, 2, out, at_day)
+    let mut text = Spelling::new();
+    add_digits(&mut text, n / 10000, 4);
+    add(&mut text, b"-");
+    add_digits(&mut text, n / 100 % 100, 2);
+    add(&mut text, b"-");
+    add_digits(&mut text, n % 100, 2);
+    text
 }

@@ -1,39 +1,39 @@
-// Decimal digits: a run of them, the number that they write, and writing them.
-ghost use Rattle.std.specs.Prelude.{◌≡◌, ◌+◌, ◌^◌, ◌<◌, ◌≤◌, max, [], ◌∷◌, length, take, drop, pos, decimal};
-ghost use Rattle.fields.specs.Buffers.{over};
-ghost use Rattle.fields.specs.Digits.{is_digit, run as run_of, value as value_of, padded};
+// Numbers written with places in a base: runs of decimal digits, the number that places write, and writing them.
+ghost use Rattle.std.specs.Prelude.{◌≡◌, ◌+◌, ◌^◌, ◌<◌, ◌≤◌, length, pos};
+ghost use Rattle.fields.specs.Digits.{run as run_of, value as value_of, AreDigits};
+ghost use Rattle.fields.specs.PlaceValues.{Each};
+ghost use Rattle.fields.specs.Places.{number_on, places};
 
-fn is_digit(b: u8) -> bool
-    ensures { result ≡ is_digit b }
+// How long the run of decimal digits at the beginning is.
+pub(crate) fn run(bytes: &[u8]) -> usize
+    ensures { result ≡ run_of bytes.now }
 {
-    b >= b'0' && b <= b'9'
+    bytes.iter().take_while(|b| b.is_ascii_digit()).count()
 }
 
-// How long the longest run of digits at a place is.
-pub(crate) fn run(bytes: &[u8], at: usize) -> usize
-    ensures is { result ≡ run_of (drop at bytes.now) }
-    ensures within { at + result ≤ max at (length bytes.now) }
+// The number that bytes write with places in a base; `FIRST` is the byte of place 0.
+pub(crate) fn value<const BASE: u64, const FIRST: u8>(bytes: &[u8]) -> u64
+    requires held { Each BASE FIRST bytes.now }
+    requires few { BASE ^ length bytes.now ≤ 2 ^ 48 }
+    ensures is { result ≡ number_on BASE FIRST 0 bytes.now }
+    ensures below { result < BASE ^ length bytes.now }
 {
-    let mut i = at;
-    while i < bytes.len() && is_digit(bytes[i]) {
-        i += 1;
-    }
-    i - at
-}
-
-// The number that the first digits of a run at a place write.
-pub(crate) fn value(bytes: &[u8], at: usize, len: usize) -> u64
-    requires digits { len ≤ run_of (drop at bytes.now) }
-    requires few { len ≤ 12 }
-    ensures is { result ≡ value_of (take len (drop at bytes.now)) }
-    ensures below { result < 10 ^ len }
-    ensures small { result < 10 ^ 12 }
-{
-    let mut n: u64 = 0;
-    for i in 0..len {
-        n = n * 10 + (bytes[at + i] - b'0') as u64;
+    let mut n = 0;
+    for byte in bytes {
+        n = n * BASE + u64::from(*byte - FIRST);
     }
     n
+}
+
+// The number that up to twelve digits write.
+pub(crate) fn digits_value(digits: &[u8]) -> u64
+    requires digits { AreDigits digits.now }
+    requires few { length digits.now ≤ 12 }
+    ensures is { result ≡ value_of digits.now }
+    ensures below { result < 10 ^ length digits.now }
+    ensures small { result < 10 ^ 12 }
+{
+    value::<10, b'0'>(digits)
 }
 
 // A number as a field's number.
@@ -44,48 +44,14 @@ pub(crate) fn number(n: u64) -> i64
     n as i64
 }
 
-// How many digits a number has.
-pub(crate) fn width(n: u64) -> usize
-    ensures { result ≡ length (decimal n) }
+// Fills a buffer with the last places of a number in a base; `FIRST` is the byte of place 0.
+pub(crate) fn fill<const BASE: u64, const FIRST: u8>(n: u64, out: &mut [u8])
+    requires { (0 < BASE) × (FIRST + BASE ≤ 256) }
+    ensures { out.new ≡ places BASE FIRST (length out.old) n }
 {
     let mut left = n;
-    let mut w = 1;
-    while left >= 10 {
-        left /= 10;
-        w += 1;
+    for i in (0..out.len()).rev() {
+        out[i] = FIRST + (left % BASE) as u8;
+        left /= BASE;
     }
-    w
-}
-
-// Fills a buffer with the last digits of a number.
-pub(crate) fn pad(n: u64, out: &mut [u8])
-    ensures { out.new ≡ padded (length out.old) n }
-{
-    let mut left = n;
-    let mut i = out.len();
-    while i > 0 {
-        i -= 1;
-        out[i] = b'0' + (left % 10) as u8;
-        left /= 10;
-    }
-}
-
-// Writes the last digits of a number at a place, and says where the next byte goes.
-pub(crate) fn put_digits(n: u64, w: usize, out: &mut [u8], at: usize) -> usize
-    requires { at + length (padded w n) ≤ length out.old }
-    ensures len { result ≡ at + length (padded w n) }
-    ensures after { out.new ≡ over at (padded w n) out.old }
-{
-    pad(n, &mut out[at..at + w]);
-    at + w
-}
-
-// Writes one byte at a place, and says where the next goes.
-pub(crate) fn put_byte(b: u8, out: &mut [u8], at: usize) -> usize
-    requires { at < length out.old }
-    ensures len { result ≡ at + 1 }
-    ensures after { out.new ≡ over at (b ∷ []) out.old }
-{
-    out[at] = b;
-    at + 1
 }

@@ -1,7 +1,7 @@
 // A pair of families is a family: kinds 0 to 31 are the first's, 32 to 63 the second's less 32.
-ghost use Rattle.std.specs.Prelude.{◌≡◌, ◌-◌, length, drop, nat_lt};
+ghost use Rattle.std.specs.Prelude.{◌≡◌, ◌-◌, length, nat_lt};
 ghost use Rattle.fields.specs.Buffers.{written};
-ghost use Rattle.fields.specs.Meanings.{moved};
+ghost use Rattle.fields.specs.Cursors.{unread, Moved};
 ghost use Rattle.fields.specs.Known.{Halves};
 ghost use Rattle.fields.specs.Pairs.{pair_means};
 ghost use Rattle.std.proofs.lemmas.Bool.{cond_both};
@@ -10,7 +10,7 @@ ghost use Rattle.fields.specs.Fairs.{unknown_lawful};
 
 use crate::cause::{Cause, Sort};
 use crate::cursor::Cursor;
-use crate::family::{Family, TooShort};
+use crate::family::{Family, Kind, TooShort};
 
 // Two families side by side.
 #[derive(Clone, Copy)]
@@ -34,50 +34,44 @@ impl<A: Family, B: Family> Family for Pair<A, B> {
         cond_both (nat_lt k 32) _ _ Lawful (λ _. A.Family.lawful s.first k p)
         (λ _. cond_both (nat_lt k 64) _ _ Lawful (λ _. B.Family.lawful s.second (k - 32) p) (λ _. unknown_lawful)) };
 
-    fn sort(&self, kind: u8, p: u8) -> Sort
-        ensures means { result ≡ (pair_means (A.Family.means self.now.first) (B.Family.means self.now.second) kind p).sort }
-        ensures halves { Halves (λ k q. (A.Family.means self.now.first k q).sort) (λ k q. (B.Family.means self.now.second k q).sort) kind p result }
+    fn sort(&self, kind: Kind) -> Sort
+        ensures means { result ≡ (pair_means (A.Family.means self.now.first) (B.Family.means self.now.second) kind.code kind.parameter).sort }
+        ensures halves { Halves (λ k q. (A.Family.means self.now.first k q).sort) (λ k q. (B.Family.means self.now.second k q).sort) kind.code kind.parameter result }
     {
-        match kind {
-            0..=31 => self.first.sort(kind, p),
-            32..=63 => self.second.sort(kind - 32, p),
+        match kind.code {
+            0..=31 => self.first.sort(kind),
+            32..=63 => self.second.sort(kind.less(32)),
             _ => Sort::Unknown,
         }
     }
 
-    fn read(
-        &self,
-        kind: u8,
-        p: u8,
-        bytes: &[u8],
-        cursor: &mut Cursor,
-    ) -> Result<(usize, i64), Cause>
-        ensures answer { result ≡ (pair_means (A.Family.means self.now.first) (B.Family.means self.now.second) kind p).reads (drop cursor.old.place bytes.now) }
-        ensures place { cursor.new.place ≡ moved cursor.old.place result }
+    fn read(&self, kind: Kind, cursor: &mut Cursor) -> Result<(usize, i64), Cause>
+        ensures answer { result ≡ (pair_means (A.Family.means self.now.first) (B.Family.means self.now.second) kind.code kind.parameter).reads (unread cursor.old) }
+        ensures place { Moved result cursor.old cursor.new }
     {
-        match kind {
-            0..=31 => self.first.read(kind, p, bytes, cursor),
-            32..=63 => self.second.read(kind - 32, p, bytes, cursor),
+        match kind.code {
+            0..=31 => self.first.read(kind, cursor),
+            32..=63 => self.second.read(kind.less(32), cursor),
             _ => Err(Cause::Form),
         }
     }
 
-    fn spelled_length(&self, kind: u8, p: u8, number: i64) -> usize
-        ensures { result ≡ length ((pair_means (A.Family.means self.now.first) (B.Family.means self.now.second) kind p).spells number) }
+    fn spelled_length(&self, kind: Kind, number: i64) -> usize
+        ensures { result ≡ length ((pair_means (A.Family.means self.now.first) (B.Family.means self.now.second) kind.code kind.parameter).spells number) }
     {
-        match kind {
-            0..=31 => self.first.spelled_length(kind, p, number),
-            32..=63 => self.second.spelled_length(kind - 32, p, number),
+        match kind.code {
+            0..=31 => self.first.spelled_length(kind, number),
+            32..=63 => self.second.spelled_length(kind.less(32), number),
             _ => 0,
         }
     }
 
-    fn spell(&self, kind: u8, p: u8, number: i64, out: &mut [u8]) -> Result<usize, TooShort>
-        ensures { (result, out.new) ≡ written ((pair_means (A.Family.means self.now.first) (B.Family.means self.now.second) kind p).spells number) out.old }
+    fn spell(&self, kind: Kind, number: i64, out: &mut [u8]) -> Result<usize, TooShort>
+        ensures { (result, out.new) ≡ written ((pair_means (A.Family.means self.now.first) (B.Family.means self.now.second) kind.code kind.parameter).spells number) out.old }
     {
-        match kind {
-            0..=31 => self.first.spell(kind, p, number, out),
-            32..=63 => self.second.spell(kind - 32, p, number, out),
+        match kind.code {
+            0..=31 => self.first.spell(kind, number, out),
+            32..=63 => self.second.spell(kind.less(32), number, out),
             _ => Ok(0),
         }
     }

@@ -1,26 +1,23 @@
 // Kept text: up to the first byte p, or to the row's end.
-ghost use Rattle.std.specs.Prelude.{◌≡◌, ◌+◌, drop, pos};
+ghost use Rattle.std.specs.Prelude.{◌≡◌, pos};
+ghost use Rattle.fields.specs.Cursors.{unread, Ahead};
 ghost use Rattle.fields.specs.Texts.{before, text_length};
 
 use crate::cursor::Cursor;
 use crate::digits::number;
 
-// How many bytes stand before the first byte p, from a place on.
-fn bytes_before(p: u8, bytes: &[u8], at: usize) -> usize
-    ensures { result ≡ before p (drop at bytes.now) }
+// How many bytes stand before the first byte of that number.
+fn bytes_before(stop: u8, bytes: &[u8]) -> usize
+    ensures { result ≡ before stop bytes.now }
 {
-    let mut i = at;
-    while i < bytes.len() && bytes[i] != p {
-        i += 1;
-    }
-    i - at
+    bytes.iter().take_while(|b| **b != stop).count()
 }
 
-pub(crate) fn read_text(p: u8, bytes: &[u8], cursor: &mut Cursor) -> (usize, i64)
-    ensures answer { result ≡ (text_length p (drop cursor.old.place bytes.now), pos (text_length p (drop cursor.old.place bytes.now))) }
-    ensures place { cursor.new.place ≡ cursor.old.place + result.0 }
+pub(crate) fn read_text(stop: u8, cursor: &mut Cursor) -> (usize, i64)
+    ensures answer { result ≡ (text_length stop (unread cursor.old), pos (text_length stop (unread cursor.old))) }
+    ensures ahead { Ahead result.0 cursor.old cursor.new }
 {
-    let len = bytes_before(p, bytes, cursor.place).min(999_999_999_999);
+    let len = bytes_before(stop, cursor.rest()).min(999_999_999_999);
     cursor.place += len;
     (len, number(len as u64))
 }

@@ -1,53 +1,49 @@
 // Whole numbers: a run of digits.
-ghost use Rattle.std.specs.Prelude.{◌≡◌, ◌≤◌, length, drop};
-ghost use Rattle.fields.specs.Buffers.{laid};
-ghost use Rattle.fields.specs.Meanings.{moved};
+ghost use Rattle.std.specs.Prelude.{◌≡◌};
+ghost use Rattle.fields.specs.Cursors.{unread, Moved};
 ghost use Rattle.fields.specs.Wholes.{leads, whole, whole_spells};
 
 use crate::cause::Cause;
 use crate::cursor::{Cursor, Guard};
-use crate::digits::{number, put_digits, run, value, width};
+use crate::digits::{digits_value, number, run};
+use crate::spelling::{Spelling, add_decimal};
 
 // Whether a zero leads a run of more than one digit.
-pub(crate) fn is_led(bytes: &[u8], at: usize) -> bool
-    ensures { result ≡ leads (drop at bytes.now) }
+pub(crate) fn is_led(bytes: &[u8]) -> bool
+    ensures { result ≡ leads bytes.now }
 {
-    run(bytes, at) > 1 && bytes[at] == b'0'
+    run(bytes) > 1 && bytes.first() == Some(&b'0')
 }
 
-pub(crate) fn read_whole(bytes: &[u8], cursor: &mut Cursor) -> Result<(usize, i64), Cause>
-    ensures answer { result ≡ whole.reads (drop cursor.old.place bytes.now) }
-    ensures place { cursor.new.place ≡ moved cursor.old.place result }
+pub(crate) fn read_whole(cursor: &mut Cursor) -> Result<(usize, i64), Cause>
+    ensures answer { result ≡ whole.reads (unread cursor.old) }
+    ensures place { Moved result cursor.old cursor.new }
 {
-    let start = cursor.place;
-    let mut guard = Guard {
-        cursor,
-        start,
-        armed: true,
-    };
-    if guard.cursor.left(bytes) == 0 {
+    let rest = cursor.rest();
+    let back = Some(cursor.place);
+    let mut guard = Guard { cursor, back };
+    if rest.is_empty() {
         return Err(Cause::Short);
     }
-    let len = guard.cursor.skip_run(bytes);
-    if len == 0 {
+    let digits = guard.cursor.skip_run();
+    if digits.is_empty() {
         return Err(Cause::Form);
     }
-    if len > 12 {
+    if digits.len() > 12 {
         return Err(Cause::Range);
     }
-    if is_led(bytes, start) {
+    if is_led(rest) {
         return Err(Cause::SecondSpelling);
     }
-    guard.armed = false;
-    Ok((len, number(value(bytes, start, len))))
+    guard.back = None;
+    Ok((digits.len(), number(digits_value(digits))))
 }
 
-// Writes a whole number at the beginning of a buffer.
-pub(crate) fn put_whole(number: i64, out: &mut [u8]) -> usize
-    requires { length (whole_spells number) ≤ length out.old }
-    ensures len { result ≡ length (whole_spells number) }
-    ensures after { out.new ≡ laid (whole_spells number) out.old }
+// The digits of a whole number.
+pub(crate) fn spell_whole(number: i64) -> Spelling
+    ensures { result.items ≡ whole_spells number }
 {
-    let n = number.unsigned_abs();
-    put_digits(n, width(n), out, 0)
+    let mut text = Spelling::new();
+    add_decimal(&mut text, number.unsigned_abs());
+    text
 }

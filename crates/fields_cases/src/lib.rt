@@ -3,97 +3,69 @@
 
 use fields::cause::Sort;
 use fields::cursor::Cursor;
-use fields::family::Family;
+use fields::family::{Family, Kind};
 
-// A kind with its parameter on some bytes: the cause's number, or 0 and the field's length and number.
+// A kind on some bytes, and what reading gives: the field's length and number, or the cause's number.
 #[derive(Clone, Copy)]
 pub struct Case {
-    pub kind: u8,
-    pub p: u8,
+    pub kind: Kind,
     pub bytes: &'static [u8],
-    pub cause: u8,
-    pub len: usize,
-    pub number: i64,
+    pub wanted: Result<(usize, i64), u8>,
 }
 
-pub const fn good(kind: u8, p: u8, bytes: &'static [u8], len: usize, number: i64) -> Case {
+pub const fn good(
+    code: u8,
+    parameter: u8,
+    bytes: &'static [u8],
+    length: usize,
+    number: i64,
+) -> Case {
     Case {
-        kind,
-        p,
+        kind: Kind { code, parameter },
         bytes,
-        cause: 0,
-        len,
-        number,
+        wanted: Ok((length, number)),
     }
 }
 
-pub const fn fault(kind: u8, p: u8, bytes: &'static [u8], cause: u8) -> Case {
+pub const fn fault(code: u8, parameter: u8, bytes: &'static [u8], cause: u8) -> Case {
     Case {
-        kind,
-        p,
+        kind: Kind { code, parameter },
         bytes,
-        cause,
-        len: 0,
-        number: 0,
+        wanted: Err(cause),
     }
 }
 
 // Whether reading gives what the case says, and leaves the cursor behind the field or where it was.
 pub fn reads<F: Family>(family: &F, case: &Case) -> bool {
-    let mut cursor = Cursor::new();
-    match family.read(case.kind, case.p, case.bytes, &mut cursor) {
-        Ok((len, number)) => case.cause == 0
-            && len == case.len
-            && number == case.number
-            && cursor.place == len,
-        Err(cause) => cause.number() == case.cause && cursor.place == 0,
-    }
-}
-
-// Whether two slices agree on so many bytes, which both have.
-fn agree(a: &[u8], b: &[u8], len: usize) -> bool {
-    len <= a.len() && len <= b.len() && a[0..len] == b[0..len]
-}
-
-// Whether the number is spelled with the bytes of the field at the beginning of a buffer.
-fn spelled_into<F: Family>(family: &F, case: &Case, out: &mut [u8]) -> bool {
-    match family.spell(case.kind, case.p, case.number, out) {
-        Ok(len) => len == case.len && agree(out, case.bytes, len),
-        Err(_) => false,
-    }
+    let mut cursor = Cursor::new(case.bytes);
+    let read = family
+        .read(case.kind, &mut cursor)
+        .map_err(|cause| cause.number());
+    let behind = read.map_or(0, |(length, _)| length);
+    read == case.wanted && cursor.place == behind
 }
 
 // Whether a buffer that is too short is refused and left as it is.
-fn refused_by<F: Family>(family: &F, case: &Case, out: &mut [u8]) -> bool {
-    if family.spell(case.kind, case.p, case.number, out).is_ok() {
-        return false;
-    }
-    for byte in out.iter() {
-        if *byte != 0xAA {
-            return false;
-        }
-    }
-    true
+fn refuses<F: Family>(family: &F, kind: Kind, number: i64, out: &mut [u8]) -> bool {
+    out.fill(0xAA);
+    family.spell(kind, number, out).is_err() && out.iter().all(|byte| *byte == 0xAA)
 }
 
 // Whether a good numeric field is spelled with the bytes read, from the middle of a buffer, and refused one byte less.
 pub fn spells<F: Family>(family: &F, case: &Case) -> bool {
-    let Sort::Numeric = family.sort(case.kind, case.p) else {
+    let (Ok((length, number)), Sort::Numeric) = (case.wanted, family.sort(case.kind)) else {
         return true;
     };
-    if case.cause != 0 {
-        return true;
-    }
-    let len = family.spelled_length(case.kind, case.p, case.number);
-    let mut out = [0xAAu8; 32];
-    let mut short = [0xAAu8; 32];
-    if len != case.len || len == 0 || len > 32 {
+    if length != family.spelled_length(case.kind, number) || length == 0 || length > 28 {
         return false;
     }
-    spelled_into(family, case, &mut out[4..])
-        && agree(&out, &[0xAA; 4], 4)
-        && (len + 4 >= 32 || out[len + 4] == 0xAA)
-        && refused_by(family, case, &mut short[0..len - 1])
+    let mut out = [0xAA; 32];
+    let mut short = [0; 32];
+    family.spell(case.kind, number, &mut out[4..]) == Ok(length)
+        && out.starts_with(&[0xAA; 4])
+        && case.bytes.get(..length) == out.get(4..4 + length)
+        && out[4 + length..].iter().all(|byte| *byte == 0xAA)
+        && refuses(family, case.kind, number, &mut short[..length - 1])
 }
 
 // Whether all is as the case says.
@@ -104,9 +76,9 @@ pub fn stands<F: Family>(family: &F, case: &Case) -> bool {
 #[cfg(test)]
 mod tests {
     use super::*;
+    use either::{Either, Left, Right};
     use fields::ascii::Ascii;
     use fields::binary::Binary;
-    use fields::either::Either;
     use fields::pair::Pair;
 
     #[test]
@@ -244,8 +216,8 @@ mod tests {
 
     #[test]
     fn pairs(rt: HostRuntime) {
-        let ascii: Either<Ascii, Binary> = Either::First(Ascii);
-        let binary: Either<Ascii, Binary> = Either::Second(Binary);
+        let ascii: Either<Ascii, Binary> = Left(Ascii);
+        let binary: Either<Ascii, Binary> = Right(Binary);
         let pair = Pair::new(ascii, binary);
         let cases = [
             good(1, 0, b"17", 2, 17),
@@ -266,11 +238,26 @@ mod tests {
 
     #[test]
     fn places(rt: HostRuntime) {
-        let mut cursor = Cursor { place: 3 };
-        assert!(rt; Ascii.read(1, 0, b"17,5", &mut cursor).is_ok() && cursor.place == 4);
-        assert!(rt; Ascii.read(1, 0, b"17,5", &mut cursor).is_err() && cursor.place == 4);
+        let whole = Kind {
+            code: 1,
+            parameter: 0,
+        };
+        let text = Kind {
+            code: 4,
+            parameter: 44,
+        };
+        let date = Kind {
+            code: 6,
+            parameter: 0,
+        };
+        let mut cursor = Cursor {
+            bytes: b"17,5",
+            place: 3,
+        };
+        assert!(rt; Ascii.read(whole, &mut cursor).is_ok() && cursor.place == 4);
+        assert!(rt; Ascii.read(whole, &mut cursor).is_err() && cursor.place == 4);
         cursor.place = 9;
-        assert!(rt; Ascii.read(4, 44, b"17,5", &mut cursor).is_ok() && cursor.place == 9);
-        assert!(rt; Ascii.read(6, 0, b"17,5", &mut cursor).is_err() && cursor.place == 9);
+        assert!(rt; Ascii.read(text, &mut cursor).is_ok() && cursor.place == 9);
+        assert!(rt; Ascii.read(date, &mut cursor).is_err() && cursor.place == 9);
     }
 }

@@ -1,50 +1,44 @@
--- Each digit is one, and the number stays small.
-use Rattle.std.proofs.Common.{◌≡◌, ℕ, ◌+◌, ◌-◌, ◌*◌, ◌^◌, ◌<◌, ◌≤◌, List, length, get_or, take, drop, sym, ap, ◌∙◌, subst, arith, rules}
-use Rattle.std.proofs.lemmas.List.{take_more, get_or-drop, length-drop}
-use Rattle.fields.specs.Digits.{value, run}
-use Rattle.fields.specs.Runs.{run_le, run_digit, value_take, value_push}
+-- Each byte is a place, and the number stays below the base to the power of the count.
+use Rattle.std.proofs.Common.{◌≡◌, ℕ, ◌+◌, ◌-◌, ◌*◌, ◌^◌, ◌<◌, ◌≤◌, List, length, get_or, take, sym, ap, ◌∙◌, subst, arith}
+use native.Mathlib.Nat.{pow-le-pow_right}
+use Rattle.std.proofs.lemmas.List.{take_more, length-take-le, take_all}
+use Rattle.fields.specs.Places.{number_on}
+use Rattle.fields.specs.PlaceValues.{Each, number_push, number_small, each_take, each_at}
 use Rattle.fields.proofs.digits.value.Goals as goal
 
--- a front of at most eleven digits, and the digit after it
-record Front (bs : List ℕ) (at i : ℕ) : Type 0 where
-  small : value (take i (drop at bs)) < 10 ^ 11
-  low : 48 ≤ get_or bs (at + i) 0
-  high : get_or bs (at + i) 0 ≤ 57
-  within : at + i < length bs
-  same : get_or (drop at bs) i 0 ≡ get_or bs (at + i) 0
+-- one place more stays below the base to the power of all places
+record Step (base first : ℕ) (bs : List ℕ) (i n : ℕ) : Type 0 where
+  low : first ≤ get_or bs i 0
+  place : get_or bs i 0 - first < base
+  small : n * base + (get_or bs i 0 - first) < base ^ length bs
+  next : number_on base first 0 (take (i + 1) bs) ≡ n * base + (get_or bs i 0 - first)
 
-front : (bs : List ℕ) (at i len : ℕ) → len ≤ run (drop at bs) → len ≤ 12 → i < len → Front bs at i
-front bs at i len h k l =
-    let d = run_digit (drop at bs) i (omega arith) in
-    let e = get_or-drop at bs i 0 in
-    record { small = value_take i 11 (drop at bs) (omega arith) (omega arith); low = omega (arith, d.0); high = omega (arith, d.1); within = omega (arith, run_le (drop at bs), length-drop at bs); same = e }
+step : (base first : ℕ) (bs : List ℕ) (i n : ℕ) → Each base first bs → i < length bs → n ≡ number_on base first 0 (take i bs) → Step base first bs i n
+step base first bs i n e h k =
+    let b = each_at base first bs i e h in
+    let next = ap (number_on base first 0) (take_more bs i 0 h) ∙ number_push base first 0 (take i bs) (get_or bs i 0) ∙ ap (λ m. m * base + (get_or bs i 0 - first)) (sym k) in
+    let s = number_small base first (take (i + 1) bs) (each_take base first (i + 1) bs e) in
+    let l : length (take (i + 1) bs) ≡ i + 1 = length-take-le (i + 1) bs (omega arith) in
+    let p : base ^ (i + 1) ≤ base ^ length bs = pow-le-pow_right {n = base} (omega arith) (omega arith) in
+    let t : n * base + (get_or bs i 0 - first) < base ^ (i + 1) = subst (λ m. m < base ^ (i + 1)) next (subst (λ m. number_on base first 0 (take (i + 1) bs) < base ^ m) l s) in
+    record { low = b.1; place = b.0; small = omega arith; next = next }
 
 pub overflow_mul-n : goal.overflow_mul-n
-overflow_mul-n c = let f = front c.args.bytes.now c.args.at c.loop-i.i c.args.len c.requires.digits c.requires.few c.loop-i-test.true in omega (arith, c.loop-i.invariant)
+overflow_mul-n g c = let s = step g.row.BASE g.row.FIRST _ _ _ c.requires.held c.loop-byte-test.true c.loop-byte.invariant.1 in omega (arith, s.small, c.requires.few)
+
+pub overflow_sub-byte : goal.overflow_sub-byte
+overflow_sub-byte g c = (each_at g.row.BASE g.row.FIRST _ _ c.requires.held c.loop-byte-test.true).1
 
 pub overflow_add-n : goal.overflow_add-n
-overflow_add-n c = let f = front c.args.bytes.now c.args.at c.loop-i.i c.args.len c.requires.digits c.requires.few c.loop-i-test.true in search rules
+overflow_add-n g c = let s = step g.row.BASE g.row.FIRST _ _ _ c.requires.held c.loop-byte-test.true c.loop-byte.invariant.1 in omega (arith, s.small, c.requires.few, c.from.ensures)
 
-pub bounds-bytes-at : goal.bounds-bytes-at
-bounds-bytes-at c = let f = front c.args.bytes.now c.args.at c.loop-i.i c.args.len c.requires.digits c.requires.few c.loop-i-test.true in search rules
+pub loop-byte-preserved : goal.loop-byte-preserved
+loop-byte-preserved g c =
+    let s = step g.row.BASE g.row.FIRST _ _ _ c.requires.held c.loop-byte-test.true c.loop-byte.invariant.1 in
+    (omega arith, ap (λ k. c.loop-byte.n * g.row.BASE + k) c.from.ensures ∙ sym s.next)
 
-pub overflow_sub-n : goal.overflow_sub-n
-overflow_sub-n c = let f = front c.args.bytes.now c.args.at c.loop-i.i c.args.len c.requires.digits c.requires.few c.loop-i-test.true in omega arith
-
-pub overflow_add-n-in-loop-i : goal.overflow_add-n-in-loop-i
-overflow_add-n-in-loop-i c = let f = front c.args.bytes.now c.args.at c.loop-i.i c.args.len c.requires.digits c.requires.few c.loop-i-test.true in omega (arith, c.loop-i.invariant)
-
-pub loop-i-preserved : goal.loop-i-preserved
-loop-i-preserved c =
-    let bs = drop c.args.at c.args.bytes.now in
-    let i = c.loop-i.i in
-    let f = front c.args.bytes.now c.args.at i c.args.len c.requires.digits c.requires.few c.loop-i-test.true in
-    ap (λ n. n * 10 + (get_or c.args.bytes.now (c.args.at + i) 0 - 48)) c.loop-i.invariant
-    ∙ sym (ap value (take_more bs i 0 (omega (arith, f.within, length-drop c.args.at c.args.bytes.now))) ∙ value_push 0 (take i bs) (get_or bs i 0) ∙ ap (λ b. value (take i bs) * 10 + (b - 48)) f.same)
-
-pub returns : goal.returns
-returns c =
-    let bs = drop c.args.at c.args.bytes.now in
-    let e : c.loop-i.i ≡ c.args.len = omega arith in
-    let v = c.loop-i.invariant ∙ ap (λ k. value (take k bs)) e in
-    record { is = v; below = subst (λ n. n < 10 ^ c.args.len) (sym v) (value_take c.args.len c.args.len bs c.requires.digits (omega arith)); small = omega (arith, value_take c.args.len 12 bs c.requires.digits c.requires.few) }
+pub returns-clause-below : goal.returns-clause-below
+returns-clause-below g c =
+    let bs = c.args.bytes.now in
+    let e = c.loop-byte.invariant.1 ∙ ap (number_on g.row.BASE g.row.FIRST 0) (take_all c.loop-byte.byte-index bs c.loop-byte-test.false) in
+    subst (λ n. n < g.row.BASE ^ length bs) (sym e) (number_small g.row.BASE g.row.FIRST bs c.requires.held)

@@ -1,7 +1,7 @@
--- The number of the digits so far.
-use Rattle.std.proofs.Common.{◌≡◌, take, drop}
-use Rattle.fields.specs.Digits.{value}
+-- The number of the places so far.
+use Rattle.std.proofs.Common.{◌≡◌, ◌≤◌, length, take}
+use Rattle.fields.specs.Places.{number_on}
 use Rattle.fields.proofs.digits.value.Given as goal
 
-abbrev pub invariant-loop-i : goal.invariant-loop-i
-invariant-loop-i l = l.n ≡ value (take l.i (drop l.at l.bytes))
+abbrev pub invariant-loop-byte : goal.invariant-loop-byte
+invariant-loop-byte g l = (l.byte-index ≤ length l.bytes) × (l.n ≡ number_on g.row.BASE g.row.FIRST 0 (take l.byte-index l.bytes))

@@ -1,0 +1,56 @@
+// Numbers of one to four bytes, most significant first.
+ghost use Rattle.std.specs.Prelude.{◌≡◌, ◌^◌, ◌<◌, ◌≤◌};
+ghost use Rattle.fields.specs.Octets.{octets, twos, of_twos};
+
+use crate::digits::fill;
+use crate::spelling::{Spelling, add};
+
+// How many bytes a number takes.
+#[derive(Clone, Copy)]
+pub struct Width {
+    pub(crate) bytes: u8,
+    ghost range: { (1 ≤ bytes) × (bytes ≤ 4) },
+}
+
+impl Width {
+    // How many numbers so many bytes can hold.
+    fn full(self) -> u64
+        ensures { result ≡ 256 ^ self.bytes }
+    {
+        256u64.pow(u32::from(self.bytes))
+    }
+
+    // A number read as two's complement.
+    pub(crate) fn signed(self, n: u64) -> i64
+        requires { n < 256 ^ self.bytes }
+        ensures { result ≡ twos (256 ^ self.bytes) n }
+    {
+        if 2 * n < self.full() {
+            n as i64
+        } else {
+            n as i64 - self.full() as i64
+        }
+    }
+
+    // A number written as two's complement.
+    pub(crate) fn bits(self, number: i64) -> u64
+        ensures { result ≡ of_twos (256 ^ self.bytes) number }
+    {
+        if number >= 0 {
+            return number as u64;
+        }
+        self.full().saturating_sub(number.unsigned_abs())
+    }
+
+    // The last so many bytes of a number.
+    pub(crate) fn octets(self, n: u64) -> Spelling
+        ensures { result.items ≡ octets self.bytes n }
+    {
+        let count = usize::from(self.bytes);
+        let mut bytes = [0; 4];
+        fill::<256, 0>(n, &mut bytes[..count]);
+        let mut text = Spelling::new();
+        add(&mut text, &bytes[..count]);
+        text
+    }
+}
