@@ -5,7 +5,7 @@ use Rattle.std.proofs.Math.Nat.{pow-le-pow_right, one-le-pow}
 use Rattle.std.proofs.lemmas.List.{length-take-le, length-drop}
 use Rattle.std.proofs.lemmas.Bool.{eqb-true, eqb-false, ltb-true, ltb-false, and_parts, or_parts, and_from, not-false, not_from_true, not_from_false, ne_eqb, lt-ltb, le-ltb}
 use Rattle.std.proofs.lemmas.Bool.Decides.{nat_tests}
-use Rattle.fields.specs.declared.cause.Cause.TheVariants.{Form}
+use Rattle.fields.specs.declared.cause.Cause.TheVariants.{Form, Range, SecondSpelling}
 use Rattle.fields.specs.declared.cause.Sort.TheVariants.{Numeric}
 use Rattle.fields.specs.Meanings.{Reading}
 use Rattle.fields.specs.Laws.{Lawful}
@@ -140,6 +140,12 @@ units_at p bs front after whole v f s hv hf =
 -- ways that a reading ends
 pub no_form : (p : ℕ) (bs : List ℕ) → (length bs ≢ 0) → formed p (body bs) ≡ false → ◌≡◌ {A = Reading} (Err Form) ((amount p).reads bs)
 no_form p bs some f = refused 1 (amount_tests p bs) (amount_gives p bs) Form (ne_eqb _ _ some, (not_from_false _ f, refl))
+
+pub no_range : (p : ℕ) (bs : List ℕ) → (length bs ≢ 0) → formed p (body bs) ≡ true → 12 < run (body bs) + p → ◌≡◌ {A = Reading} (Err Range) ((amount p).reads bs)
+no_range p bs some f h = refused 2 (amount_tests p bs) (amount_gives p bs) Range (ne_eqb _ _ some, (not_from_true _ f, (lt-ltb 12 _ h, refl)))
+
+pub second_spelling : (p : ℕ) (bs : List ℕ) → (length bs ≢ 0) → formed p (body bs) ≡ true → run (body bs) + p ≤ 12 → (leads (body bs) || (minus bs && units p (body bs) == 0)) ≡ true → ◌≡◌ {A = Reading} (Err SecondSpelling) ((amount p).reads bs)
+second_spelling p bs some f h s = refused 3 (amount_tests p bs) (amount_gives p bs) SecondSpelling (ne_eqb _ _ some, (not_from_true _ f, (le-ltb 12 _ h, (s, refl))))
 
 pub good_amount : (p : ℕ) (bs : List ℕ) → (length bs ≢ 0) → formed p (body bs) ≡ true → run (body bs) + p ≤ 12 → (leads (body bs) || (minus bs && units p (body bs) == 0)) ≡ false → ◌≡◌ {A = Reading} (Ok (amount_gives p bs)) ((amount p).reads bs)
 good_amount p bs some f h s = good (amount_tests p bs) (amount_gives p bs) (ne_eqb _ _ some, (not_from_true _ f, (le-ltb 12 _ h, (s, tt))))
