@@ -1,3 +1,2 @@
 -- Lemmas of the header rule.
 pub mod HeadFrames
-pub mod HeadSteps

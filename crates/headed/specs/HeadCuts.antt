@@ -12,14 +12,14 @@ use Rattle.headed.specs.Heads.{header, begins, cut_if, headed_cut, headed_frame,
 -- what begins with n bytes 00 is these bytes and the rest
 begins_split : (n : ℕ) (bs : List ℕ) → begins n bs ≡ true → replicate n 0 ++ drop n bs ≡ bs
 begins_split zero bs h = refl
-begins_split (suc n) [] h = let z : ◌≡◌ {A = ℕ} 0 1 = cc in absurd (omega arith)
+begins_split (suc n) [] h = absurd (cc)
 begins_split (suc n) (b ∷ bs) h =
     let p = and_parts (b == 0) (begins n bs) h in
     ap (λ x. x ∷ (replicate n 0 ++ drop n bs)) (sym (eqb-true b 0 p.0)) ∙ ap (λ x. b ∷ x) (begins_split n bs p.1)
 
 pub begins_long : (n : ℕ) (bs : List ℕ) → begins n bs ≡ true → n ≤ length bs
 begins_long zero bs h = omega arith
-begins_long (suc n) [] h = let z : ◌≡◌ {A = ℕ} 0 1 = cc in absurd (omega arith)
+begins_long (suc n) [] h = absurd (cc)
 begins_long (suc n) (b ∷ bs) h = let i = begins_long n bs (and_parts (b == 0) (begins n bs) h).1 in omega arith
 
 parts_if : (t : Bool) (file : List ℕ) → begins 4 file ≡ t → Parts file (cut_if t file)

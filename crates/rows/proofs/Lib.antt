@@ -1,5 +1,4 @@
 -- Lemmas of the row rules.
-pub mod FrameLaws
 pub mod NewlineSteps
 pub mod NewlineWords
 pub mod SampleSteps

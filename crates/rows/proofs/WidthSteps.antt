@@ -3,10 +3,10 @@ use Rattle.std.proofs.Common.{◌≡◌, ℕ, suc, ◌+◌, ◌-◌, ◌*◌, �
 use native.Mathlib.Nat.{div-eq_of_lt, div-eq-sub-div}
 use Rattle.std.proofs.lemmas.List.{drop-drop}
 use Rattle.rows.specs.Cuts.{TailAt}
-use Rattle.rows.specs.Told.{HandsOut, TellsTail, rest_at, row_between}
+use Rattle.rows.specs.Told.{HandsOut, TellsTail, rest_at}
 use Rattle.rows.specs.Widths.{slabs, fixed_count, fixed_from, fixed_at}
 use Rattle.rows.specs.declared.piece.Mark.TheVariants.{Ended}
-use Rattle.rows.specs.CutLaws.{row_told, row_gone, row_there, tail_told, tail_stays}
+use Rattle.rows.specs.CutLaws.{hands_out, tells_tail}
 
 abbrev tail_of : ℕ → ℕ → ℕ → List ℕ → TailAt
 tail_of n w p file = record { start = p + n * w; bytes = drop (p + n * w) file }
@@ -25,12 +25,10 @@ module _ (w p : ℕ) (file : List ℕ) where
         let e : (length file - p) - w ≡ length file - (p + w) = omega arith in
         div-eq-sub-div some h ∙ add-one _ ∙ ap (λ n. suc (n / w)) e
 
-    row_ahead : (fixed_from w p file).rows ≡ row_between file p (p + w) Ended ∷ (fixed_from w (p + w) file).rows
+    row_ahead : (fixed_from w p file).rows ≡ record { start = p; bytes = take w (drop p file); mark = Ended } ∷ (fixed_from w (p + w) file).rows
     row_ahead =
-        let e : w ≡ p + w - p = omega arith in
         ap (λ n. slabs n w p (drop p file)) fewer
         ∙ ap (λ x. record { start = p; bytes = take w (drop p file); mark = Ended } ∷ slabs (fixed_count w (p + w) file) w (p + w) x) (drop-drop w p file)
-        ∙ ap (λ n. record { start = p; bytes = take n (drop p file); mark = Ended } ∷ (fixed_from w (p + w) file).rows) e
 
     same_tail : (fixed_from w (p + w) file).tail ≡ (fixed_from w p file).tail
     same_tail =
@@ -38,24 +36,22 @@ module _ (w p : ℕ) (file : List ℕ) where
         let k : p + w + m * w ≡ p + suc m * w = omega (arith, suc-mul m w) in
         ap (λ a. record { start = a; bytes = drop a file }) k ∙ ap (λ n. tail_of n w p file) (sym fewer)
 
--- what a place that may be past the file's end has ahead
-module _ (w at : ℕ) (file : List ℕ) (start : ℕ) (is : start ≡ min at (length file)) where
-  here : fixed_from w start file ≡ fixed_at w at file
-  here = ap (λ p. fixed_from w p file) is
+-- what a place in the file has ahead
+module _ (w at : ℕ) (file : List ℕ) (inside : at ≤ length file) where
+  here : fixed_from w at file ≡ fixed_at w at file
+  here = ap (λ p. fixed_from w p file) (omega arith)
 
-  pub tail_at : length file - start < w → TellsTail (fixed_at w at file) (rest_at at file)
+  pub tail_at : length file - at < w → TellsTail (fixed_at w at file) (rest_at at file)
   tail_at h =
-      let none = ap (λ c. c.rows) (sym here) ∙ (short_ahead w start file h).0 in
-      let t : record { start = min at (length file); bytes = drop (min at (length file)) file } ≡ (fixed_at w at file).tail =
-      ap (λ p. record { start = p; bytes = drop p file }) (sym is) ∙ (short_ahead w start file h).1 ∙ ap (λ c. c.tail) here in
-      record { tells = tail_told (fixed_at w at file) _ none t; leaves = tail_stays (fixed_at w at file) none }
+      let short = short_ahead w at file h in
+      let m : min at (length file) ≡ at = omega arith in
+      tells_tail (fixed_at w at file) _ (ap (λ c. c.rows) (sym here) ∙ short.0) (ap (λ p. record { start = p; bytes = drop p file }) m ∙ short.1 ∙ ap (λ c. c.tail) here)
 
-  pub row_at : 1 ≤ w → w ≤ length file - start → HandsOut (fixed_at w at file) (row_between file start (start + w) Ended) (fixed_at w (start + w) file)
+  pub row_at : 1 ≤ w → w ≤ length file - at → HandsOut (fixed_at w at file) (record { start = at; bytes = take w (drop at file); mark = Ended }) (fixed_at w (at + w) file)
   row_at some h =
-      let rows : (fixed_at w at file).rows ≡ row_between file start (start + w) Ended ∷ (fixed_from w (start + w) file).rows = ap (λ c. c.rows) (sym here) ∙ row_ahead w start file some h in
-      let inside : min (start + w) (length file) ≡ start + w = omega arith in
-      record {
-        tells = row_told (fixed_at w at file) _ _ rows;
-        leaves = ap (λ p. fixed_from w p file) inside ∙ ap (λ t. record { rows = (fixed_from w (start + w) file).rows; tail = t }) (same_tail w start file some h ∙ ap (λ c. c.tail) here) ∙ row_gone (fixed_at w at file) _ _ rows;
-        some = row_there (fixed_at w at file) _ _ rows;
-      }
+      let c = fixed_at w at file in
+      let next = fixed_from w (at + w) file in
+      let rows : c.rows ≡ record { start = at; bytes = take w (drop at file); mark = Ended } ∷ next.rows = ap (λ c. c.rows) (sym here) ∙ row_ahead w at file some h in
+      let same : fixed_at w (at + w) file ≡ record { rows = next.rows; tail = c.tail } =
+      ap (λ p. fixed_from w p file) (let e : min (at + w) (length file) ≡ at + w = omega arith in e) ∙ ap (λ t. record { rows = next.rows; tail = t }) (same_tail w at file some h ∙ ap (λ c. c.tail) here) in
+      rw same (hands_out c _ _ rows)

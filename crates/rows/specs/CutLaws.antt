@@ -1,39 +1,21 @@
 -- Laws of rows, frames and parts of a file, for every rule.
 use Rattle.std.specs.Prelude.{◌≡◌, ℕ, zero, suc, ◌+◌, ◌-◌, ◌≤◌, List, [], ◌∷◌, ◌++◌, length, take, drop, ◌≢◌, refl}
 use Rattle.std.proofs.Common.{sym, ap, subst, ◌∙◌, arith}
-use Rattle.std.proofs.lemmas.List.{append_assoc, length-append, length-drop, length-take-le, take-append-drop, take_rest}
+use Rattle.std.proofs.lemmas.Grind.{flat_map-append}
+use Rattle.std.proofs.lemmas.List.{map-append, length-append, length-drop, length-take-le, take-append-drop, take_rest}
 use Rattle.rows.specs.Cuts.{RowAt, TailAt, Cut, Text, text, texts, frames, Each, PartOf, File}
 use Rattle.rows.specs.Rules.{Meaning, Lawful}
-use Rattle.rows.specs.Told.{row, tail, first_piece, piece_of, rest, behind}
+use Rattle.rows.specs.Told.{row, tail, first_piece, piece_of, rest, behind, HandsOut, TellsTail}
 use Rattle.rows.specs.declared.piece.Mark.{Mark}
 
 pub cons_not_nil : {X : Type 0} (x : X) (xs : List X) → x ∷ xs ≢ []
 cons_not_nil x xs e = let y : suc (length xs) ≡ 0 = ap length e in omega arith
 
-pub texts_append : (a b : List RowAt) → texts (a ++ b) ≡ texts a ++ texts b
-texts_append [] b = refl
-texts_append (r ∷ a) b = ap (λ x. text r ∷ x) (texts_append a b)
-
 pub frames_append : (f : List ℕ → Mark → List ℕ) (a b : List Text) → frames f (a ++ b) ≡ frames f a ++ frames f b
-frames_append f [] b = refl
-frames_append f (t ∷ a) b = ap (λ x. f t.bytes t.mark ++ x) (frames_append f a b) ∙ sym (append_assoc (f t.bytes t.mark) (frames f a) (frames f b))
+frames_append f a b = flat_map-append (λ t. f t.bytes t.mark) a b
 
 pub texts_split : (n : ℕ) (rs : List RowAt) → texts (take n rs) ++ texts (drop n rs) ≡ texts rs
-texts_split n rs = sym (texts_append (take n rs) (drop n rs)) ∙ ap texts (take-append-drop n rs)
-
-pub texts_take : (n : ℕ) (rs : List RowAt) → texts (take n rs) ≡ take n (texts rs)
-texts_take zero rs = refl
-texts_take (suc n) [] = refl
-texts_take (suc n) (r ∷ rs) = ap (λ x. text r ∷ x) (texts_take n rs)
-
-pub texts_drop : (n : ℕ) (rs : List RowAt) → texts (drop n rs) ≡ drop n (texts rs)
-texts_drop zero rs = refl
-texts_drop (suc n) [] = refl
-texts_drop (suc n) (r ∷ rs) = texts_drop n rs
-
-pub texts_length : (rs : List RowAt) → length (texts rs) ≡ length rs
-texts_length [] = refl
-texts_length (r ∷ rs) = ap suc (texts_length rs)
+texts_split n rs = sym (map-append text (take n rs) (drop n rs)) ∙ ap texts (take-append-drop n rs)
 
 pub each_take : (P : RowAt → Type 0) (n : ℕ) (rs : List RowAt) → Each P rs → Each P (take n rs)
 each_take P zero rs h = tt
@@ -64,6 +46,9 @@ module _ (c : Cut) (r : RowAt) (rs : List RowAt) (is : c.rows ≡ r ∷ rs) wher
   pub row_there : c.rows ≡ [] → ⊥
   row_there z = cons_not_nil r rs (sym is ∙ z)
 
+  pub hands_out : HandsOut c r (record { rows = rs; tail = c.tail })
+  hands_out = record { tells = row_told; leaves = row_gone; some = row_there }
+
 -- a rule that tells the tail
 pub tail_told : (c : Cut) (t : TailAt) → c.rows ≡ [] → t ≡ c.tail → tail t ≡ piece_of c
 tail_told c t e k = ap tail k ∙ ap (λ x. first_piece x c.tail) (sym e)
@@ -71,14 +56,13 @@ tail_told c t e k = ap tail k ∙ ap (λ x. first_piece x c.tail) (sym e)
 pub tail_stays : (c : Cut) → c.rows ≡ [] → c ≡ behind c
 tail_stays c e = ap (λ x. record { rows = x; tail = c.tail }) (e ∙ sym (ap rest e))
 
--- which piece was told says what was to come
-pub was_row : (rs : List RowAt) (t : TailAt) (r : RowAt) → row r ≡ first_piece rs t → rs ≡ r ∷ rest rs
-was_row [] t r e = let z : ◌≡◌ {A = ℕ} 0 1 = cc in absurd (omega arith)
-was_row (q ∷ rs) t r e = let z : q ≡ r = cc in ap (λ y. y ∷ rs) z
+pub tells_tail : (c : Cut) (t : TailAt) → c.rows ≡ [] → t ≡ c.tail → TellsTail c (tail t)
+tells_tail c t e k = record { tells = tail_told c t e k; leaves = tail_stays c e }
 
-pub was_tail : (rs : List RowAt) (t u : TailAt) → tail u ≡ first_piece rs t → (rs ≡ []) × (u ≡ t)
-was_tail [] t u e = (refl, cc)
-was_tail (q ∷ rs) t u e = let z : ◌≡◌ {A = ℕ} 0 1 = cc in absurd (omega arith)
+-- a row that was told was the first to come
+pub was_row : (rs : List RowAt) (t : TailAt) (r : RowAt) → row r ≡ first_piece rs t → rs ≡ r ∷ rest rs
+was_row [] t r e = cc
+was_row (q ∷ rs) t r e = let z : q ≡ r = cc in ap (λ y. y ∷ rs) z
 
 -- a lawful rule cuts no more rows than there are bytes
 not_nil : (xs : List ℕ) → (xs ≢ []) → 1 ≤ length xs

@@ -1,5 +1,6 @@
 -- Rows and a tail as values: what a file is cut into, and the frames of rows put together again.
-use Rattle.std.specs.Prelude.{◌≡◌, ℕ, ◌+◌, ◌<◌, ◌≤◌, List, [], ◌∷◌, ◌++◌, length, take, drop, slice_index}
+use Rattle.std.specs.Prelude.{◌≡◌, ℕ, ◌+◌, ◌<◌, ◌≤◌, List, [], ◌∷◌, length, map, take, drop, slice_index}
+use Rattle.std.specs.List.{flat_map}
 use Rattle.rows.specs.declared.piece.Mark.{Mark}
 
 -- a row: where it starts in the file, its bytes, and its mark
@@ -27,15 +28,13 @@ abbrev pub text : RowAt → Text
 text r = record { bytes = r.bytes; mark = r.mark }
 
 abbrev pub texts : List RowAt → List Text
-texts [] = []
-texts (r ∷ rs) = text r ∷ texts rs
+texts rs = map text rs
 
 -- the frames of rows in order, one after another
 abbrev pub frames : (List ℕ → Mark → List ℕ) → List Text → List ℕ
-frames frame [] = []
-frames frame (t ∷ ts) = frame t.bytes t.mark ++ frames frame ts
+frames frame ts = flat_map (λ t. frame t.bytes t.mark) ts
 
--- every row of a list
+-- every row of a list, one after another, since the proofs take a list apart (std's `All` speaks of indices)
 abbrev pub Each : (RowAt → Type 0) → List RowAt → Type 0
 Each P [] = Unit {0}
 Each P (r ∷ rs) = P r × Each P rs

@@ -1,15 +1,11 @@
 -- Setting a rule on a file that is within the limit: the answer, and what is then known.
-use Rattle.std.specs.Prelude.{ℕ, ◌≤◌, Bool, true, false, List, length, Ok, Err, Result, nat_le}
+use Rattle.std.specs.Prelude.{ℕ, ◌≤◌, if◌then◌else◌, List, length, Ok, Err, Result, nat_le}
 use Rattle.rows.specs.Rules.{Meaning, Parts, NoEmptyFrame, FramesAreTheFile, ExchangeLeavesTheRest}
 use Rattle.rows.specs.declared.refusal.Refusal.{Refusal}
 use Rattle.rows.specs.declared.refusal.Refusal.TheVariants.{FileTooLong}
 
-abbrev pub answer_if : Bool → Result (Unit {0}) Refusal
-answer_if true = Ok tt
-answer_if false = Err FileTooLong
-
 abbrev pub taken : List ℕ → Result (Unit {0}) Refusal
-taken file = answer_if (nat_le (length file) 16777216)
+taken file = if nat_le (length file) 16777216 then Ok tt else Err FileTooLong
 
 -- What holds of a file's rows under every rule: they are parts of it, none has an empty frame and so there are no more of them than bytes,
 -- their frames and the tail are the file, and exchanging one for a carried one leaves the rest.

@@ -1,13 +1,15 @@
 -- What finding a row answers: a row in the file, which is handed out, and where the rule goes on.
-use Rattle.std.specs.Prelude.{ℕ, ◌≤◌, List, length, Option, MatchOption}
-use Rattle.rows.specs.Cuts.{Cut}
-use Rattle.rows.specs.Told.{HandsOut, TellsTail, rest_at, row_between}
+use Rattle.std.specs.Prelude.{ℕ, List, Option, MatchOption}
+use Rattle.rows.specs.Cuts.{RowAt, Cut, PartOf}
+use Rattle.rows.specs.Told.{HandsOut, TellsTail, rest_at}
 use Rattle.rows.specs.declared.piece.Found.{Found}
 
+abbrev pub row_of : Found → RowAt
+row_of f = record { start = f.start; bytes = f.bytes.now; mark = f.mark }
+
 pub record FoundAt (file : List ℕ) (c : Cut) (f : Found) (from : ℕ → List ℕ → Cut) : Type 0 where
-  pub rises : f.start ≤ f.end
-  pub within : f.end ≤ length file
-  pub hands : HandsOut c (row_between file f.start f.end f.mark) (from f.next file)
+  pub within : PartOf file f.start f.bytes.now
+  pub hands : HandsOut c (row_of f) (from f.next file)
 
 -- a row at a place, or none and the tail begins there
 abbrev pub Finds : (ℕ → List ℕ → Cut) → ℕ → List ℕ → Option Found → Type 0

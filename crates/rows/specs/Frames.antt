@@ -1,5 +1,5 @@
 -- What measuring a frame answers, and what writing one into a buffer answers and leaves.
-use Rattle.std.specs.Prelude.{ℕ, min, Bool, true, false, ◌&&◌, List, ◌++◌, length, take, drop, Ok, Err, Result, nat_le}
+use Rattle.std.specs.Prelude.{ℕ, min, if◌then◌else◌, ◌&&◌, List, ◌++◌, length, take, drop, Ok, Err, Result, nat_le}
 use Rattle.rows.specs.declared.refusal.Refusal.{Refusal}
 use Rattle.rows.specs.declared.refusal.Refusal.TheVariants.{BufferTooShort}
 
@@ -11,14 +11,9 @@ measured n = min n 18446744073709551615
 abbrev pub laid : List ℕ → List ℕ → List ℕ
 laid bytes buffer = bytes ++ drop (length bytes) buffer
 
--- the answer, and what the buffer holds then
-abbrev pub Written : Type 0
-Written = Result ℕ Refusal × List ℕ
-
-abbrev pub written_if : Bool → List ℕ → List ℕ → Written
-written_if true bytes buffer = (Ok (length bytes), laid bytes buffer)
-written_if false bytes buffer = (Err BufferTooShort, buffer)
-
--- The row is the buffer's first n bytes, and its frame goes to the buffer's beginning; a buffer too short for row or frame stays as it was.
-abbrev pub framed : (List ℕ → List ℕ) → ℕ → List ℕ → Written
-framed frame n buffer = written_if (nat_le n (length buffer) && nat_le (length (frame (take n buffer))) (length buffer)) (frame (take n buffer)) buffer
+-- The answer, and what the buffer holds then: the row is the buffer's first n bytes, and its frame goes to the buffer's beginning;
+-- a buffer too short for row or frame stays as it was.
+abbrev pub framed : (List ℕ → List ℕ) → ℕ → List ℕ → Result ℕ Refusal × List ℕ
+framed frame n buffer =
+    let bytes = frame (take n buffer) in
+    if nat_le n (length buffer) && nat_le (length bytes) (length buffer) then (Ok (length bytes), laid bytes buffer) else (Err BufferTooShort, buffer)

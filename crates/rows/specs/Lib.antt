@@ -9,7 +9,6 @@ pub mod Refusals
 pub mod Newlines
 pub mod Widths
 pub mod Samples
-pub mod Eithers
 pub mod Words
 pub mod Files
 pub mod Examples

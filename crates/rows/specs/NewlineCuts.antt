@@ -146,7 +146,7 @@ line_unended p b (a ∷ bs) h =
     ap (λ t. put t p b (lines (p + 1) (a ∷ bs))) k.0 ∙ ap (put false p b) (line_unended (p + 1) a bs k.1)
 
 unended_back : (p : ℕ) (bs : List ℕ) → newline_carries bs Unended ≡ true → texts (lines p bs) ≡ record { bytes = bs; mark = Unended } ∷ []
-unended_back p [] h = let z : ◌≡◌ {A = ℕ} 0 1 = cc in absurd (omega arith)
+unended_back p [] h = absurd (cc)
 unended_back p (b ∷ bs) h = ap texts (line_unended p b bs (and_parts (lacks (b ∷ bs)) (some (b ∷ bs)) h).0)
 
 ended_back : (p : ℕ) (bs more : List ℕ) → lacks bs ≡ true → texts (lines p ((bs ++ (10 ∷ [])) ++ more)) ≡ record { bytes = bs; mark = Ended } ∷ texts (lines (p + length bs + 1) more)
@@ -158,7 +158,7 @@ last_back p bs Unended h = ap (λ x. texts (lines p x)) (append-nil bs) ∙ unen
 
 first_back : (p : ℕ) (bs : List ℕ) (m : Mark) (more : List ℕ) (ts : List Text) → newline_carries bs m ≡ true → m ≡ Ended → ((q : ℕ) → texts (lines q more) ≡ ts) → texts (lines p (newline_frame bs m ++ more)) ≡ record { bytes = bs; mark = m } ∷ ts
 first_back p bs Ended more ts h e k = ended_back p bs more h ∙ ap (λ x. record { bytes = bs; mark = Ended } ∷ x) (k (p + length bs + 1))
-first_back p bs Unended more ts h e k = let z : ◌≡◌ {A = ℕ} 0 1 = cc in absurd (omega arith)
+first_back p bs Unended more ts h e k = absurd (cc)
 
 -- carried rows, all but the last ended, are cut again from their frames
 pub lines_back : (p : ℕ) (ts : List Text) → Good ts → texts (lines p (frames newline_frame ts)) ≡ ts

@@ -1,32 +1,22 @@
 -- The first rows of a lawful rule keep its laws.
-use Rattle.std.specs.Prelude.{◌≡◌, ℕ, zero, suc, ◌+◌, List, [], ◌∷◌, ◌++◌, length, take, drop, refl}
+use Rattle.std.specs.Prelude.{◌≡◌, ℕ, ◌+◌, List, ◌∷◌, ◌++◌, length, take, drop, refl}
 use Rattle.std.proofs.Common.{sym, ap, ◌∙◌, arith}
-use Rattle.std.proofs.lemmas.List.{append_assoc, length-append, drop_at, drop_all}
-use Rattle.rows.specs.Cuts.{RowAt, Text, texts, frames, File}
+use Rattle.std.proofs.lemmas.Grind.{common_steps}
+use Rattle.std.proofs.lemmas.List.{take-map, drop-map, length-map, append_assoc, length-append, drop_at, drop_all}
+use Rattle.rows.specs.Cuts.{RowAt, Text, text, texts, frames, File}
 use Rattle.rows.specs.Rules.{Meaning, Lawful, ExchangeLeavesTheRest, joined, swapped}
 use Rattle.rows.specs.Samples.{frames_end, sampled}
 use Rattle.rows.specs.Words.{SampleRows}
-use Rattle.rows.specs.CutLaws.{frames_append, texts_split, texts_take, texts_drop, texts_length, each_take, rest_part}
+use Rattle.rows.specs.CutLaws.{frames_append, texts_split, each_take, rest_part}
 
 front_back : (n : ℕ) (rs : List RowAt) (x : List Text) → length x ≡ length (take n rs) → take n (x ++ texts (drop n rs)) ≡ x
-front_back zero rs [] h = refl
-front_back zero rs (t ∷ x) h = absurd (omega arith)
-front_back (suc n) [] [] h = refl
-front_back (suc n) [] (t ∷ x) h = absurd (omega arith)
-front_back (suc n) (r ∷ rs) [] h = absurd (omega arith)
-front_back (suc n) (r ∷ rs) (t ∷ x) h = ap (λ y. t ∷ y) (front_back n rs x (omega arith))
+front_back n rs x h = grind (arith, common_steps)
 
 end_back : (n : ℕ) (rs : List RowAt) (x : List Text) → length x ≡ length (take n rs) → drop n (x ++ texts (drop n rs)) ≡ texts (drop n rs)
-end_back zero rs [] h = refl
-end_back zero rs (t ∷ x) h = absurd (omega arith)
-end_back (suc n) [] [] h = refl
-end_back (suc n) [] (t ∷ x) h = absurd (omega arith)
-end_back (suc n) (r ∷ rs) [] h = absurd (omega arith)
-end_back (suc n) (r ∷ rs) (t ∷ x) h = end_back n rs x (omega arith)
+end_back n rs x h = grind (arith, common_steps)
 
 swap_length : (before after : List Text) (old new : Text) → length (before ++ old ∷ after) ≡ length (before ++ new ∷ after)
-swap_length [] after old new = refl
-swap_length (t ∷ before) after old new = ap suc (swap_length before after old new)
+swap_length before after old new = simp length-append
 
 module _ (m : Meaning) (law : Lawful m) (n : ℕ) where
   -- what follows the frames of the first n rows: the frames of the others, and the tail below
@@ -66,9 +56,9 @@ module _ (m : Meaning) (law : Lawful m) (n : ℕ) where
       let k = law.exchange file f before (rear ++ more) old new other all b h o g in
       let rs' = (m.cut other).rows in
       let is : texts rs' ≡ x ++ more = k.0 ∙ sym same in
-      let l : length x ≡ length (take n rs) = sym (swap_length before rear old mid) ∙ ap length (sym e) ∙ texts_length (take n rs) in
-      let d : texts (drop n rs') ≡ more = texts_drop n rs' ∙ ap (drop n) is ∙ end_back n rs x l in (
-        texts_take n rs' ∙ ap (take n) is ∙ front_back n rs x l,
+      let l : length x ≡ length (take n rs) = sym (swap_length before rear old mid) ∙ ap length (sym e) ∙ length-map (take n rs) text in
+      let d : texts (drop n rs') ≡ more = sym (drop-map text n rs') ∙ ap (drop n) is ∙ end_back n rs x l in (
+        sym (take-map text n rs') ∙ ap (take n) is ∙ front_back n rs x l,
         tail_after other g ∙ ap (λ y. frames m.frame y ++ (m.cut other).tail.bytes) d ∙ ap (λ y. frames m.frame more ++ y) k.1 ∙ sym (tail_after file f),
       )
 

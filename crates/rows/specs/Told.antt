@@ -1,6 +1,5 @@
 -- What a piece tells, and which piece comes next of the rows still to come and the tail.
-use Rattle.std.specs.Prelude.{◌≡◌, ℕ, ◌-◌, min, List, [], ◌∷◌, length, take, drop}
-use Rattle.rows.specs.declared.piece.Mark.{Mark}
+use Rattle.std.specs.Prelude.{◌≡◌, ℕ, min, List, [], ◌∷◌, length, drop}
 use Rattle.rows.specs.declared.piece.Piece.{Piece}
 use Rattle.rows.specs.declared.piece.Piece.TheVariants.{Row, Tail}
 use Rattle.rows.specs.Cuts.{RowAt, TailAt, Cut, PartOf}
@@ -50,7 +49,3 @@ pub record TellsTail (c : Cut) (t : Told) : Type 0 where
 -- the tail that begins at a place, or at the file's end where that comes first
 abbrev pub rest_at : ℕ → List ℕ → Told
 rest_at p file = tail (record { start = min p (length file); bytes = drop (min p (length file)) file })
-
--- the row between two places
-abbrev pub row_between : List ℕ → ℕ → ℕ → Mark → RowAt
-row_between file start end mark = record { start = start; bytes = take (end - start) (drop start file); mark = mark }

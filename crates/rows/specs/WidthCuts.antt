@@ -51,7 +51,7 @@ slabs_wide (suc n) w p bs k =
 
 carried_width : (w : ℕ) (new : List ℕ) (m : Mark) → fixed_carries w new m ≡ true → length new ≡ w
 carried_width w new Ended h = eqb-true (length new) w h
-carried_width w new Unended h = let z : ◌≡◌ {A = ℕ} 0 1 = cc in absurd (omega arith)
+carried_width w new Unended h = absurd (cc)
 
 wide_swap : (w : ℕ) (before : List Text) (old : Text) (after : List Text) (new : List ℕ) → length new ≡ w → Wide w (before ++ old ∷ after) → Wide w (before ++ swapped old new ∷ after)
 wide_swap w [] old after new h k = (h, k.1, k.2)

@@ -1,5 +1,5 @@
 -- What the rows of each rule are, in the rule's own words and apart from its cutting.
-use Rattle.std.specs.Prelude.{◌≡◌, ℕ, ◌+◌, ◌-◌, ◌<◌, ◌≤◌, Bool, true, false, cond, not, List, [], ◌∷◌, length, take, drop, ◌==◌, ◌≢◌, slice_index}
+use Rattle.std.specs.Prelude.{◌≡◌, ℕ, ◌+◌, ◌-◌, ◌<◌, ◌≤◌, Bool, true, false, cond, not, List, [], ◌∷◌, length, take, drop, ◌==◌, ◌≢◌, slice_index, codes}
 use Rattle.rows.specs.Cuts.{RowAt, texts, frames, Each, PartOf}
 use Rattle.rows.specs.Rules.{Meaning}
 use Rattle.rows.specs.Newlines.{newline_frame, newline_meaning}
@@ -29,6 +29,11 @@ ends (r ∷ rs) = end_after r.mark (last_byte r) (ends rs)
 abbrev pub unended : Mark → Bool
 unended Ended = false
 unended Unended = true
+
+-- a mark in a word
+abbrev pub word : Mark → List ℕ
+word Ended = codes "ended"
+word Unended = codes "unended"
 
 -- the closing row is unended
 abbrev pub last_unended : List RowAt → Bool

@@ -1,5 +1,5 @@
 // The newline rule: byte 0A ends a row.
-ghost use Rattle.std.specs.Prelude.{◌≡◌, ℕ, ◌<◌, ◌≤◌, List, length, ◌≢◌, slice_index};
+ghost use Rattle.std.specs.Prelude.{◌≡◌, ℕ, List};
 ghost use Rattle.rows.specs.Finds.{Finds};
 ghost use Rattle.rows.specs.Steps.{SetOn, Asked};
 ghost use Rattle.rows.specs.Told.{told};
@@ -7,10 +7,11 @@ ghost use Rattle.rows.specs.Newlines.{newline_from, newline_meaning, lacks};
 ghost use Rattle.rows.specs.Words.{NewlineRows};
 ghost use Rattle.rows.specs.NewlineCuts.{newline_lawful};
 
-use crate::frames::{row_alone, row_and_byte};
+use crate::frames::row_and;
 use crate::piece::{Found, Mark, Piece};
 use crate::refusal::Refusal;
 use crate::rule::RowRule;
+use memchr::memchr;
 
 // The byte that ends a row.
 pub const NEWLINE: u8 = 0x0A;
@@ -31,26 +32,11 @@ impl Newline {
     }
 }
 
-// Where the first 0A at or after a place stands, or the file's length.
-fn line_end(file: &[u8], start: usize) -> usize
-    requires { start ≤ length file.now }
-    ensures bound { (start ≤ result) × (result ≤ length file.now) }
-    ensures before { (k : ℕ) → start ≤ k → k < result → slice_index file.now k ≢ 10 }
-    ensures found { result < length file.now → slice_index file.now result ≡ 10 }
-{
-    for i in start..file.len() {
-        if file[i] == NEWLINE {
-            return i;
-        }
-    }
-    file.len()
-}
-
 // Whether no byte is 0A.
 fn lacks_newline(row: &[u8]) -> bool
     ensures { result ≡ lacks row.now }
 {
-    line_end(row, 0) == row.len()
+    !row.contains(&NEWLINE)
 }
 
 // The row at a place, or none where the file ends before it.
@@ -60,21 +46,21 @@ fn row_at(file: &[u8], start: usize) -> Option<Found>
     if start >= file.len() {
         return None;
     }
-    let end = line_end(file, start);
-    if end < file.len() {
-        return Some(Found {
+    let rest = &file[start..];
+    match memchr(NEWLINE, rest) {
+        Some(length) => Some(Found {
             start,
-            end,
+            bytes: &rest[..length],
             mark: Mark::Ended,
-            next: end + 1,
-        });
+            next: start + length + 1,
+        }),
+        None => Some(Found {
+            start,
+            bytes: rest,
+            mark: Mark::Unended,
+            next: file.len(),
+        }),
     }
-    Some(Found {
-        start,
-        end,
-        mark: Mark::Unended,
-        next: end,
-    })
 }
 
 impl RowRule for Newline {
@@ -93,13 +79,8 @@ impl RowRule for Newline {
     fn next<'f>(&mut self, file: &'f [u8]) -> Piece<'f>
         ensures { Asked file.now (told result) newline_meaning newline_meaning (newline_from self.old.at) (newline_from self.new.at) }
     {
-        match row_at(file, self.at) {
-            Some(found) => {
-                self.at = found.next;
-                Piece::row_of(file, found)
-            }
-            None => Piece::tail_from(file, self.at),
-        }
+        let found = row_at(file, self.at);
+        Piece::found_at(file, &mut self.at, found)
     }
 
     fn carries(&self, row: &[u8], mark: Mark) -> bool {
@@ -118,8 +99,8 @@ impl RowRule for Newline {
 
     fn frame_in(&self, buffer: &mut [u8], length: usize, mark: Mark) -> Result<usize, Refusal> {
         match mark {
-            Mark::Ended => row_and_byte(buffer, length, NEWLINE),
-            Mark::Unended => row_alone(buffer, length),
+            Mark::Ended => row_and(buffer, length, &[NEWLINE]),
+            Mark::Unended => row_and(buffer, length, &[]),
         }
     }
 }

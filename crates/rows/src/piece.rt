@@ -1,8 +1,10 @@
 // What cutting hands out: a row under its mark, or the tail.
-ghost use Rattle.std.specs.Prelude.{◌≡◌, ◌-◌, ◌≤◌, length, take, drop};
-ghost use Rattle.rows.specs.Cuts.{PartOf};
-ghost use Rattle.rows.specs.Told.{told, row, Of, rest_at, row_between};
+ghost use Rattle.std.specs.Prelude.{◌≡◌, MatchOption};
+ghost use Rattle.rows.specs.Finds.{row_of};
+ghost use Rattle.rows.specs.Told.{told, row, Of, rest_at};
 ghost use Rattle.rows.specs.Words.{unended};
+
+use std::fmt;
 
 // How a row ends: by what its rule asks for, or by the end of the file.
 #[derive(Clone, Copy, PartialEq, Eq, Debug)]
@@ -16,15 +18,26 @@ impl Mark {
     pub fn is_unended(self) -> bool
         ensures { result ≡ unended self }
     {
-        match self {
-            Mark::Ended => false,
-            Mark::Unended => true,
-        }
+        matches!(self, Mark::Unended)
+    }
+}
+
+impl fmt::Display for Mark {
+    ghost use Rattle.std.specs.Prelude.{Some};
+    ghost use Rattle.rows.specs.Words.{word};
+
+    ghost output = { λ mark. Some (word mark) };
+
+    fn fmt<W: fmt::Write>(&self, f: &mut fmt::Formatter<W>) -> fmt::Result {
+        f.write_str(match self {
+            Mark::Ended => "ended",
+            Mark::Unended => "unended",
+        })
     }
 }
 
 // A part of the file itself: a row, or the tail, which is the bytes that belong to no row.
-#[derive(Clone, Copy)]
+#[derive(Clone, Copy, PartialEq, Eq, Debug)]
 pub enum Piece<'f> {
     Row {
         start: usize,
@@ -37,31 +50,13 @@ pub enum Piece<'f> {
     },
 }
 
-// A row that a rule has found: where it starts and ends, its mark, and where the next frame begins.
+// A row that a rule has found in the file, and where the next frame begins.
 #[derive(Clone, Copy)]
-pub(crate) struct Found {
+pub(crate) struct Found<'f> {
     pub(crate) start: usize,
-    pub(crate) end: usize,
+    pub(crate) bytes: &'f [u8],
     pub(crate) mark: Mark,
     pub(crate) next: usize,
-}
-
-// The file from a place on.
-fn rest_of(file: &[u8], start: usize) -> &[u8]
-    requires { start ≤ length file.now }
-    ensures value { result.now ≡ drop start file.now }
-    ensures part { PartOf file.now start result.now }
-{
-    &file[start..]
-}
-
-// The file between two places.
-fn part_of(file: &[u8], start: usize, end: usize) -> &[u8]
-    requires { (start ≤ end) × (end ≤ length file.now) }
-    ensures value { result.now ≡ take (end - start) (drop start file.now) }
-    ensures part { PartOf file.now start result.now }
-{
-    &file[start..end]
 }
 
 impl<'f> Piece<'f> {
@@ -73,20 +68,27 @@ impl<'f> Piece<'f> {
         let start = place.min(file.len());
         Piece::Tail {
             start,
-            bytes: rest_of(file, start),
+            bytes: &file[start..],
         }
     }
 
-    // The row that was found.
-    pub(crate) fn row_of(file: &'f [u8], found: Found) -> Piece<'f>
-        requires { (found.start ≤ found.end) × (found.end ≤ length file.now) }
-        ensures tells { told result ≡ row (row_between file.now found.start found.end found.mark) }
-        ensures part { Of file.now (told result) }
+    // The row found at a place, which then goes on to the next frame, or else the tail from that place.
+    pub(crate) fn found_at(file: &'f [u8], at: &mut usize, found: Option<Found<'f>>) -> Piece<'f>
+        ensures { MatchOption found.entry ((told result ≡ rest_at at.old file.now) × (at.new ≡ at.old)) (λ f. (told result ≡ row (row_of f)) × (at.new ≡ f.next)) }
     {
-        Piece::Row {
-            start: found.start,
-            bytes: part_of(file, found.start, found.end),
-            mark: found.mark,
+        match found {
+            Some(
+                Found {
+                    start,
+                    bytes,
+                    mark,
+                    next,
+                },
+            ) => {
+                *at = next;
+                Piece::Row { start, bytes, mark }
+            }
+            None => Piece::tail_from(file, *at),
         }
     }
 }

@@ -2,14 +2,18 @@
 ghost use Rattle.std.specs.Prelude.{◌≡◌};
 ghost use Rattle.rows.specs.Refusals.{number_of};
 
+use std::error::Error;
+use std::fmt;
+
+// Each refusal is known by its number.
 #[derive(Clone, Copy, PartialEq, Eq, Debug)]
 pub enum Refusal {
     // a file of more than 16,777,216 bytes
-    FileTooLong,
+    FileTooLong = 8,
     // a width or a sample out of range, when the rule is made
-    OutOfRange,
+    OutOfRange = 11,
     // a buffer that is too short for what goes into it
-    BufferTooShort,
+    BufferTooShort = 15,
 }
 
 impl Refusal {
@@ -17,10 +21,23 @@ impl Refusal {
     pub fn number(self) -> u8
         ensures { result ≡ number_of self }
     {
-        match self {
-            Refusal::FileTooLong => 8,
-            Refusal::OutOfRange => 11,
-            Refusal::BufferTooShort => 15,
-        }
+        self as u8
     }
 }
+
+impl fmt::Display for Refusal {
+    ghost use Rattle.std.specs.Prelude.{Some};
+    ghost use Rattle.rows.specs.Refusals.{reason};
+
+    ghost output = { λ e. Some (reason e) };
+
+    fn fmt<W: fmt::Write>(&self, f: &mut fmt::Formatter<W>) -> fmt::Result {
+        f.write_str(match self {
+            Refusal::FileTooLong => "a file has more than 16777216 bytes",
+            Refusal::OutOfRange => "a width is not 1 to 4096, or a sample is not 0 to 16777216",
+            Refusal::BufferTooShort => "a buffer is too short",
+        })
+    }
+}
+
+impl Error for Refusal {}

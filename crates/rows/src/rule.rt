@@ -9,6 +9,7 @@ ghost use Rattle.rows.specs.Told.{told};
 use crate::piece::{Mark, Piece};
 use crate::refusal::Refusal;
 
+// The rules of this crate state the clauses of `set` and `next` once more, in their own definitions, so that their ghost members cannot drift.
 pub trait RowRule {
     // how the rule cuts any file, and its frames and carried rows: its fixed part, the same at every moment
     ghost means: { Self → Meaning };

@@ -66,14 +66,13 @@ impl<R: RowRule> Sample<R> {
         if self.left == 0 {
             return None;
         }
-        match self.below.next(file) {
-            Piece::Row { start, bytes, mark } => {
-                let frame = self.below.frame_length(bytes, mark);
-                self.count(frame);
-                Some(Piece::Row { start, bytes, mark })
-            }
-            Piece::Tail { .. } => None,
-        }
+        let piece = self.below.next(file);
+        let Piece::Row { bytes, mark, .. } = piece else {
+            return None;
+        };
+        let frame = self.below.frame_length(bytes, mark);
+        self.count(frame);
+        Some(piece)
     }
 }
 
@@ -95,10 +94,8 @@ impl<R: RowRule> RowRule for Sample<R> {
     fn next<'f>(&mut self, file: &'f [u8]) -> Piece<'f>
         ensures { Asked file.now (told result) (sampled self.old.limit (R.RowRule.means self.old.below)) (sampled self.new.limit (R.RowRule.means self.new.below)) (sample_ahead R.RowRule.means R.RowRule.ahead self.old.left self.old.end self.old.below) (sample_ahead R.RowRule.means R.RowRule.ahead self.new.left self.new.end self.new.below) }
     {
-        match self.row_below(file) {
-            Some(piece) => piece,
-            None => Piece::tail_from(file, self.end),
-        }
+        self.row_below(file)
+            .unwrap_or_else(|| Piece::tail_from(file, self.end))
     }
 
     fn carries(&self, row: &[u8], mark: Mark) -> bool {

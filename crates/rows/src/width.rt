@@ -8,7 +8,7 @@ ghost use Rattle.rows.specs.Widths.{fixed_at, fixed_meaning};
 ghost use Rattle.rows.specs.Words.{FixedRows};
 ghost use Rattle.rows.specs.WidthCuts.{fixed_lawful};
 
-use crate::frames::row_alone;
+use crate::frames::row_and;
 use crate::piece::{Found, Mark, Piece};
 use crate::refusal::Refusal;
 use crate::rule::RowRule;
@@ -37,19 +37,15 @@ impl FixedWidth {
     }
 
     // The row to come, or none where fewer bytes than the width are left.
-    fn row_at(&self, file: &[u8]) -> Option<Found>
+    fn row_at<'f>(&self, file: &'f [u8]) -> Option<Found<'f>>
         ensures { Finds (fixed_at self.now.width) self.now.at file.now result }
     {
-        let start = self.at.min(file.len());
-        if file.len() - start < self.width {
-            return None;
-        }
-        let end = start + self.width;
+        let bytes = file.get(self.at..)?.get(..self.width)?;
         Some(Found {
-            start,
-            end,
+            start: self.at,
+            bytes,
             mark: Mark::Ended,
-            next: end,
+            next: self.at + self.width,
         })
     }
 }
@@ -70,13 +66,8 @@ impl RowRule for FixedWidth {
     fn next<'f>(&mut self, file: &'f [u8]) -> Piece<'f>
         ensures { Asked file.now (told result) (fixed_meaning self.old.width) (fixed_meaning self.new.width) (fixed_at self.old.width self.old.at) (fixed_at self.new.width self.new.at) }
     {
-        match self.row_at(file) {
-            Some(found) => {
-                self.at = found.next;
-                Piece::row_of(file, found)
-            }
-            None => Piece::tail_from(file, self.at),
-        }
+        let found = self.row_at(file);
+        Piece::found_at(file, &mut self.at, found)
     }
 
     fn carries(&self, row: &[u8], mark: Mark) -> bool {
@@ -91,6 +82,6 @@ impl RowRule for FixedWidth {
     }
 
     fn frame_in(&self, buffer: &mut [u8], length: usize, _mark: Mark) -> Result<usize, Refusal> {
-        row_alone(buffer, length)
+        row_and(buffer, length, &[])
     }
 }

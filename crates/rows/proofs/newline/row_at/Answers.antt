@@ -1,24 +1,31 @@
 -- The row from a place up to the first 0A, or up to the file's end.
-use Rattle.rows.proofs.NewlineSteps.{none_ahead, ended_ahead, unended_ahead}
+use Rattle.std.proofs.Common.{ℕ, List, ◌-◌, length, take, drop, eqb-true, eq-eqb, arith}
+use Rattle.std.proofs.lemmas.List.{take_rest}
+use Rattle.rows.specs.CutLaws.{slice_part, rest_part}
+use Rattle.rows.proofs.NewlineSteps.{ended_ahead, unended_ahead}
 use Rattle.rows.proofs.newline.row_at.Goals as goal
 
-pub returns-then-start-file : goal.returns-then-start-file
-returns-then-start-file c = none_ahead c.args.start c.args.file.now c.if-start-file.true
-
-pub returns-then-end-file : goal.returns-then-end-file
-returns-then-end-file c =
-    let e = c.line_end-end.ensures in
+pub returns-in-Some : goal.returns-in-Some
+returns-in-Some c =
+    let file = c.args.file.now in
+    let p = c.args.start in
+    let n = c.in-Some.length in
+    let bs : List ℕ = take (length file - p) (drop p file) in
+    let is = take_rest file p in
+    let e = c.in-Some.ensures in
     record {
-      rises = e.bound.0;
-      within = e.bound.1;
-      hands = ended_ahead c.args.start c.args.file.now c.line_end-end.result e.bound.0 e.bound.1 e.before c.if-end-file.true (e.found c.if-end-file.true);
+      within = rw is (slice_part file p n (omega (arith, e.0.high)));
+      hands = ended_ahead p file bs is n e.0.high (eqb-true _ 10 e.1) (λ k h z. e.0.before k (omega arith) h (eq-eqb _ 10 z));
     }
 
-pub returns : goal.returns
-returns c =
-    let e = c.line_end-end.ensures in
+pub returns-in-None : goal.returns-in-None
+returns-in-None c =
+    let file = c.args.file.now in
+    let p = c.args.start in
+    let bs : List ℕ = take (length file - p) (drop p file) in
+    let is = take_rest file p in
+    let e = c.in-None.ensures in
     record {
-      rises = e.bound.0;
-      within = e.bound.1;
-      hands = unended_ahead c.args.start c.args.file.now c.line_end-end.result e.bound.0 e.bound.1 e.before c.if-start-file.false c.if-end-file.false;
+      within = rw is (rest_part file p (omega arith));
+      hands = unended_ahead p file bs is c.if-start-file.false (λ k h z. e k (omega arith) h (eq-eqb _ 10 z));
     }
