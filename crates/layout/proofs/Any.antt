@@ -1,36 +1,23 @@
--- A property that some node of a table has.
-use Rattle.std.proofs.Common.{◌≡◌, ℕ, zero, suc, ◌+◌, ◌<◌, ◌≤◌, Bool, true, false, ◌||◌, List, [], ◌∷◌, map, length, get_or, drop, sym, refl, ap, ◌∙◌, add-zero, arith}
-use Rattle.std.proofs.lemmas.List.{at_drop_more, at_drop_all}
-use Rattle.std.proofs.lemmas.Bool.{or_parts, or_from}
-use Rattle.layout.specs.Links.{any_from}
+-- A property that some element of a list has, or some node of a table.
+use Rattle.std.proofs.Common.{◌≡◌, ℕ, ◌+◌, ◌-◌, ◌<◌, ◌≤◌, Bool, false, ◌||◌, List, [], ◌∷◌, map, length, get_or, refl, ap, subst, inl, inr, arith}
+use Rattle.std.specs.List.{list_any, enumerate_from}
+use Rattle.std.proofs.lemmas.Bool.{both_ways, cases_Bool}
+use Rattle.std.proofs.lemmas.List.Folds.{list_any_at}
+use Rattle.std.proofs.lemmas.List.FromFn.{length-enumerate_from, get_or-enumerate_from}
+use Rattle.layout.specs.Links.{any_node}
 
 -- where none has it, each lacks it
-pub any_at : {X : Type 0} (f : ℕ → X → Bool) (i : ℕ) (xs : List X) → any_from f i xs ≡ false → (k : ℕ) (d : X) → k < length xs → f (i + k) (get_or xs k d) ≡ false
-any_at f i [] h k d l = absurd (omega arith)
-any_at f i (x ∷ xs) h zero d l = rw add-zero (or_parts (f i x) (any_from f (i + 1) xs) h).0
-any_at f i (x ∷ xs) h (suc k) d l =
-    let e : i + suc k ≡ (i + 1) + k = omega arith in
-    rw e (any_at f (i + 1) xs (or_parts (f i x) (any_from f (i + 1) xs) h).1 k d (omega arith))
+pub lacks : {X : Type 0} (p : X → Bool) (xs : List X) → list_any p xs ≡ false → (k : ℕ) (d : X) → k < length xs → p (get_or xs k d) ≡ false
+lacks p xs h k d l = elim (cases_Bool (p (get_or xs k d))) [ inl e ↦ absurd (both_ways (list_any p xs) h (list_any_at p xs k d l e)) | inr e ↦ e ]
 
--- where each lacks it, none has it
-pub any_none : {X : Type 0} (f : ℕ → X → Bool) (i : ℕ) (xs : List X) → ((k : ℕ) (d : X) → k < length xs → f (i + k) (get_or xs k d) ≡ false) → any_from f i xs ≡ false
-any_none f i [] h = refl
-any_none f i (x ∷ xs) h =
-    let first : f (i + 0) x ≡ false = h 0 x (omega arith) in
-    or_from (f i x) (any_from f (i + 1) xs) (rw add-zero at first) (any_none f (i + 1) xs (λ k d l. let e : (i + 1) + k ≡ i + suc k = omega arith in rw e (h (suc k) d (omega arith))))
+-- where no node has it, the node of each number lacks it
+pub node_lacks : {X : Type 0} (f : ℕ → X → Bool) (xs : List X) → any_node f xs ≡ false → (i : ℕ) (d : X) → 0 < i → i ≤ length xs → f i (get_or xs (i - 1) d) ≡ false
+node_lacks f xs h i d o l =
+    let back : 0 + (i - 1) + 1 ≡ i = omega arith in
+    let here = lacks (λ p. f (p.0 + 1) p.1) (enumerate_from 0 xs) h (i - 1) (0, d) (omega (arith, length-enumerate_from 0 xs)) in
+    subst (λ k. f k (get_or xs (i - 1) d) ≡ false) back (subst (λ p. f (p.0 + 1) p.1 ≡ false) (get_or-enumerate_from 0 xs (i - 1) (0, d) (omega arith)) here)
 
 -- the same of another view of each element
-pub any_map : {X Y : Type 0} (f : ℕ → Y → Bool) (g : X → Y) (i : ℕ) (xs : List X) → any_from f i (map g xs) ≡ any_from (λ k x. f k (g x)) i xs
+pub any_map : {X Y : Type 0} (f : ℕ → Y → Bool) (g : X → Y) (i : ℕ) (xs : List X) → list_any (λ p. f (p.0 + 1) p.1) (enumerate_from i (map g xs)) ≡ list_any (λ p. f (p.0 + 1) (g p.1)) (enumerate_from i xs)
 any_map f g i [] = refl
-any_map f g i (x ∷ xs) = ap (λ b. f i (g x) || b) (any_map f g (i + 1) xs)
-
--- a loop over the nodes: the one at i lacks it, or has it, or there is none
-module _ {X : Type 0} (f : ℕ → X → Bool) (xs : List X) (all : Bool) (i : ℕ) (left : any_from f (i + 1) (drop i xs) ≡ all) where
-  pub any_passed : (d : X) → i < length xs → f (i + 1) (get_or xs i d) ≡ false → any_from f (i + 1 + 1) (drop (i + 1) xs) ≡ all
-  any_passed d h e = sym (ap (λ b. b || any_from f (i + 1 + 1) (drop (i + 1) xs)) e) ∙ sym (at_drop_more (any_from f (i + 1)) xs i d h) ∙ left
-
-  pub any_found : (d : X) → i < length xs → f (i + 1) (get_or xs i d) ≡ true → true ≡ all
-  any_found d h e = sym (ap (λ b. b || any_from f (i + 1 + 1) (drop (i + 1) xs)) e) ∙ sym (at_drop_more (any_from f (i + 1)) xs i d h) ∙ left
-
-  pub any_ended : length xs ≤ i → false ≡ all
-  any_ended h = sym (at_drop_all (any_from f (i + 1)) xs i h) ∙ left
+any_map f g i (x ∷ xs) = ap (λ b. f (i + 1) (g x) || b) (any_map f g (i + 1) xs)

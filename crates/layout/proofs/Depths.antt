@@ -1,30 +1,26 @@
 -- The depth of a node: it has one at most, and the walk from the root finds one that is too great exactly where there is one.
 use Rattle.std.proofs.Common.{◌≡◌, ℕ, zero, suc, ◌+◌, ◌-◌, ◌<◌, ◌≤◌, true, false, ◌||◌, ltb, List, length, sym, refl, ap, subst, inl, inr, arith}
-use Rattle.std.proofs.lemmas.Bool.{or_cases, or_left, or_right, ltb-true, lt-ltb, cases_Bool}
-use Rattle.layout.specs.Links.{none, Link, link_at, leads, Depth, at_root, at_child, at_next, deeper, too_deep}
-use Rattle.layout.proofs.Rising.{Rising}
-use Rattle.layout.proofs.Once.{Once, own_cases, own_child, own_next, own_le, same_source}
+use Rattle.std.proofs.lemmas.Bool.{or_cases, or_left, or_right, ltb-true, lt-ltb, cases_Bool, false≢true}
+use Rattle.layout.specs.Links.{Link, no_link, link_at, leads, Depth, at_root, at_child, at_next, deeper, too_deep}
+use Rattle.layout.proofs.Once.{OneTree, own_cases, own_child, own_next, own_le, same_source}
 
-abbrev blank : Link
-blank = record { arity = none; child = 0; next = 0 }
-
-module _ (ls : List Link) (some : 0 < length ls) (rises : Rising ls) (once : Once ls) where
+module _ (ls : List Link) (tree : OneTree ls) where
   -- what has a depth is a node
   pub depth_node : {k d : ℕ} → Depth ls k d → (0 < k) × (k ≤ length ls)
-  depth_node at_root = (omega arith, omega arith)
-  depth_node (at_child {i} p o) = let n = depth_node p in (o, (rises i n.0 n.1).child.0)
-  depth_node (at_next {i} p o) = let n = depth_node p in (o, (rises i n.0 n.1).next.0)
+  depth_node at_root = (omega arith, tree.some)
+  depth_node (at_child {i} p o) = let n = depth_node p in (o, (tree.rises i n.0 n.1).child.0)
+  depth_node (at_next {i} p o) = let n = depth_node p in (o, (tree.rises i n.0 n.1).next.0)
 
   -- two nodes that lead to one are one
   same_node : (i j k : ℕ) → (0 < i) × (i ≤ length ls) → (0 < j) × (j ≤ length ls) → 1 < k → k ≤ length ls → 0 < leads k (link_at ls i) → 0 < leads k (link_at ls j) → i ≡ j
   same_node i j k hi hj o h a b =
-      let e = same_source ls k (i - 1) (j - 1) blank (once k o h) (omega arith) (omega arith) a b in
+      let e = same_source ls k (i - 1) (j - 1) no_link (tree.once k o h) (omega arith) (omega arith) a b in
       omega arith
 
   -- child and next of one node are two
   not_both : (i k : ℕ) → (0 < i) × (i ≤ length ls) → 1 < k → k ≤ length ls → (link_at ls i).child ≡ k → (link_at ls i).next ≡ k → ⊥
   not_both i k hi o h a b =
-      omega (arith, once k o h, own_le k ls (i - 1) blank (omega arith), own_child k (link_at ls i) a, own_next k (link_at ls i) b, one_both)
+      omega (arith, tree.once k o h, own_le k ls (i - 1) no_link (omega arith), own_child k (link_at ls i) a, own_next k (link_at ls i) b, one_both)
     where
       one_both : 2 ≤ leads k (link_at ls i)
       one_both = omega (arith, own_child k (link_at ls i) a, own_next k (link_at ls i) b)
@@ -32,8 +28,8 @@ module _ (ls : List Link) (some : 0 < length ls) (rises : Rising ls) (once : Onc
   -- a node that something leads to is not the root
   past_root : (i k : ℕ) → (0 < i) × (i ≤ length ls) → 0 < leads k (link_at ls i) → 0 < k → 1 < k
   past_root i k hi a o = elim (own_cases k (link_at ls i) a) [
-    | inl e ↦ omega (arith, (rises i hi.0 hi.1).child.1 (subst (λ n. 0 < n) (sym e) o))
-    | inr e ↦ omega (arith, (rises i hi.0 hi.1).next.1 (subst (λ n. 0 < n) (sym e) o))
+    | inl e ↦ omega (arith, (tree.rises i hi.0 hi.1).child.1 (subst (λ n. 0 < n) (sym e) o))
+    | inr e ↦ omega (arith, (tree.rises i hi.0 hi.1).next.1 (subst (λ n. 0 < n) (sym e) o))
   ]
 
   has_child : (i : ℕ) → 0 < leads (link_at ls i).child (link_at ls i)
@@ -76,8 +72,8 @@ module _ (ls : List Link) (some : 0 < length ls) (rises : Rising ls) (once : Onc
 
   -- what the walk finds is there
   pub found_there : (most f d i : ℕ) → (0 < i → Depth ls i d) → deeper most ls f d i ≡ true → Deeper most
-  found_there most zero d i p h = absurd (let z : ◌≡◌ {A = ℕ} 0 1 = cc in omega arith)
-  found_there most (suc f) d zero p h = absurd (let z : ◌≡◌ {A = ℕ} 0 1 = cc in omega arith)
+  found_there most zero d i p h = absurd (false≢true h)
+  found_there most (suc f) d zero p h = absurd (false≢true h)
   found_there most (suc f) d (suc j) p h =
       let here : Depth ls (suc j) d = p (omega arith) in
       let c = deeper most ls f (d + 1) (link_at ls (suc j)).child in
@@ -92,7 +88,7 @@ module _ (ls : List Link) (some : 0 < length ls) (rises : Rising ls) (once : Onc
 
   -- more fuel finds no less
   fuel_more : (most f g d i : ℕ) → f ≤ g → deeper most ls f d i ≡ true → deeper most ls g d i ≡ true
-  fuel_more most zero g d i l h = absurd (let z : ◌≡◌ {A = ℕ} 0 1 = cc in omega arith)
+  fuel_more most zero g d i l h = absurd (false≢true h)
   fuel_more most (suc f) zero d i l h = absurd (omega arith)
   fuel_more most (suc f) (suc g) d zero l h = h
   fuel_more most (suc f) (suc g) d (suc j) l h =
@@ -123,11 +119,11 @@ module _ (ls : List Link) (some : 0 < length ls) (rises : Rising ls) (once : Onc
   from_root most f at_root h = fuel_more most f (f + (1 - 1)) 1 1 (omega arith) h
   from_root most f (at_child {i} {d} p o) h =
       let n = depth_node p in
-      let up = (rises i n.0 n.1).child.1 o in
+      let up = (tree.rises i n.0 n.1).child.1 o in
       fuel_more most (suc f + (i - 1)) (f + ((link_at ls i).child - 1)) 1 1 (omega arith) (from_root most (suc f) p (by_child most f d i n.0 h))
   from_root most f (at_next {i} {d} p o) h =
       let n = depth_node p in
-      let up = (rises i n.0 n.1).next.1 o in
+      let up = (tree.rises i n.0 n.1).next.1 o in
       fuel_more most (suc f + (i - 1)) (f + ((link_at ls i).next - 1)) 1 1 (omega arith) (from_root most (suc f) p (by_next most f d i n.0 h))
 
   here_deep : (most d k : ℕ) → 0 < k → most < d → deeper most ls 1 d k ≡ true

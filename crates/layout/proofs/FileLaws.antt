@@ -1,7 +1,8 @@
 -- What loading a file of the right size gives.
-use Rattle.std.proofs.Common.{◌≡◌, ℕ, ◌+◌, ◌-◌, ◌*◌, ◌<◌, Bool, true, false, cond, ◌||◌, List, [], ◌∷◌, ◌++◌, map, length, get_or, take, drop, None, sym, ap, ◌∙◌, arith}
-use Rattle.std.proofs.lemmas.List.{length-take, length-drop, map_more}
+use Rattle.std.proofs.Common.{◌≡◌, ℕ, ◌+◌, ◌-◌, ◌*◌, Bool, true, false, cond, ◌||◌, List, [], ◌++◌, map, length, take, drop, None, sym, ap, ◌∙◌, arith}
+use Rattle.std.proofs.lemmas.List.{length-take, length-drop}
 use Rattle.std.proofs.lemmas.Bool.{or_from, cond-true}
+use Rattle.std.specs.List.{list_any}
 use Rattle.fields.specs.declared.cause.Sort.{Sort}
 use Rattle.packed.specs.declared.record.NodeRecord.{NodeRecord}
 use Rattle.packed.specs.Pieces.{records, loaded}
@@ -14,9 +15,7 @@ use Rattle.layout.specs.Links.{any_node, ill_linked, stranded, too_deep, hang_il
 use Rattle.layout.specs.Shapes.{node_of, link_in, links, links_in, misplaced}
 use Rattle.layout.specs.Judged.{limits, judged}
 use Rattle.layout.specs.Files.{node_count, constant_count, Sized, records_in, constants_in, refusal}
-use Rattle.layout.specs.declared.node.Node.{Node}
 use Rattle.layout.proofs.Any.{any_map}
-use Rattle.layout.proofs.Views.{blank}
 use Rattle.layout.proofs.Accepted.{passed, same_links, all_placed}
 
 module _ (bytes : List ℕ) (n k : ℕ) (sized : Sized bytes n k) where
@@ -60,16 +59,12 @@ pub nodes_hang : (sorts : ℕ → ℕ → Sort) (k : ℕ) (rs : List NodeRecord)
 nodes_hang sorts k rs h =
     let p = passed limits sorts k rs h in
     let ls = links_in rs in
-    ap (hang_ill 16) (same_links 1 rs p.0.clean)
-    ∙ or_from (any_node (ill_linked ls) ls) (any_node (stranded ls) ls || too_deep 16 ls) (any_map (ill_linked ls) link_in 1 rs ∙ p.0.rising)
-    (or_from (any_node (stranded ls) ls) (too_deep 16 ls) (any_map (stranded ls) link_in 1 rs ∙ p.0.once) p.1)
+    ap (hang_ill 16) (same_links rs p.0.clean)
+    ∙ or_from (any_node (ill_linked ls) ls) (any_node (stranded ls) ls || too_deep 16 ls) (any_map (ill_linked ls) link_in 0 rs ∙ p.0.rising)
+    (or_from (any_node (stranded ls) ls) (too_deep 16 ls) (any_map (stranded ls) link_in 0 rs ∙ p.0.once) p.1)
 
-pub nodes_placed : (sorts : ℕ → ℕ → Sort) (k : ℕ) (rs : List NodeRecord) → judged limits sorts k rs ≡ None → any_node (λ i n. misplaced 32 k n.shape) (map node_of rs) ≡ false
-nodes_placed sorts k rs h = all_placed 32 k (omega arith) 1 rs (passed limits sorts k rs h).0.inside
-
--- a loop that puts the nodes of records one after another
-pub nodes_more : {ns more : List Node} {n : Node} (rs : List NodeRecord) (i : ℕ) → more ≡ ns ++ n ∷ [] → ns ≡ map node_of (take i rs) → n ≡ node_of (get_or rs i blank) → i < length rs → more ≡ map node_of (take (i + 1) rs)
-nodes_more {n = n} rs i e f g h = e ∙ ap (λ ms. ms ++ n ∷ []) f ∙ ap (λ m. map node_of (take i rs) ++ m ∷ []) g ∙ sym (map_more node_of rs i blank h)
+pub nodes_placed : (sorts : ℕ → ℕ → Sort) (k : ℕ) (rs : List NodeRecord) → judged limits sorts k rs ≡ None → list_any (λ n. misplaced 32 k n.shape) (map node_of rs) ≡ false
+nodes_placed sorts k rs h = all_placed 32 k (omega arith) rs (passed limits sorts k rs h).0.inside
 
 -- an empty list that is extended where there is room
 pub refilled : {X : Type 0} {xs ys zs all : List X} {ok : Bool} → all ≡ cond ok (xs ++ ys) xs → ok ≡ true → xs ≡ [] → ys ≡ zs → all ≡ zs

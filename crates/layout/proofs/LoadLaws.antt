@@ -1,7 +1,8 @@
 -- What an accepted file gives, and what the refusal of the depth says.
-use Rattle.std.proofs.Common.{◌≡◌, ℕ, zero, suc, ◌+◌, ◌-◌, ◌<◌, ◌≤◌, true, false, cond, ◌||◌, eqb, List, [], ◌∷◌, ◌++◌, map, length, ℤ, IfOk, Some, None, Ok, Err, Option, Result, unwrap_or, sym, refl, ap, ◌∙◌, subst, inl, inr, append_assoc, arith, MatchResult}
-use Rattle.std.proofs.lemmas.List.{length-map}
-use Rattle.std.proofs.lemmas.Bool.{or_parts, both_ways, cases_lt, cond-false, cond_both, ne_eqb, eqb-false}
+use Rattle.std.proofs.Common.{◌≡◌, ℕ, zero, suc, ◌+◌, ◌-◌, ◌<◌, ◌≤◌, true, false, cond, ◌||◌, eqb, List, [], ◌∷◌, ◌++◌, map, length, ℤ, Some, None, Ok, Err, Option, Result, unwrap_or, sym, refl, ap, ◌∙◌, subst, inl, inr, append_assoc, arith, MatchResult}
+use Rattle.std.proofs.lemmas.Bool.{or_parts, both_ways, cases_lt, cond-false, cond_both, ne_eqb, false≢true}
+use Rattle.std.specs.List.{list_any}
+use Rattle.std.specs.Result.{is_err}
 use Rattle.fields.specs.declared.cause.Sort.{Sort}
 use Rattle.packed.specs.declared.record.NodeRecord.{NodeRecord}
 use Rattle.layout.specs.declared.node.Node.{Node}
@@ -9,14 +10,14 @@ use Rattle.layout.specs.declared.node.Entry.{Entry}
 use Rattle.layout.specs.declared.node.Shape.TheVariants.{Mark}
 use Rattle.layout.specs.declared.refusal.Refusal.{Refusal}
 use Rattle.layout.specs.declared.refusal.Refusal.TheVariants.{Size, Bits, Links, Stranded, Kind, Range, Depth}
-use Rattle.layout.specs.Links.{Link, any_from, any_node, ill_linked, stranded, too_deep, hang_ill, Depths, Shallow, Deep, Depth as At, at_root, at_child, at_next}
-use Rattle.layout.specs.Shapes.{shape_of, node_of, links, link_in, links_in, is_unknown, unknown_by, unknown, KnownShape, Known}
-use Rattle.layout.specs.Trees.{node_at, child_of, parts_at, entry, outline_of, TreeOf}
+use Rattle.layout.specs.Links.{Link, any_node, ill_linked, stranded, too_deep, hang_ill, Depths, Shallow, Deep, Depth as At, at_root, at_child, at_next}
+use Rattle.layout.specs.Shapes.{shape_of, node_of, links, links_in, is_unknown, unknown_by, unknown, KnownShape, Known}
+use Rattle.layout.specs.Trees.{node_at, child_number, next_number, parts_at, entry, outline_of, TreeOf}
 use Rattle.layout.specs.Judged.{limits, judged}
 use Rattle.layout.specs.Files.{records_in, Sized, refusal, answer}
 use Rattle.layout.specs.Loading.{DepthTold}
-use Rattle.layout.proofs.Rising.{Above, Rising, rising, rising_in}
-use Rattle.layout.proofs.Once.{Once, once, once_in}
+use Rattle.layout.proofs.Rising.{Above, Rising, positive, rising}
+use Rattle.layout.proofs.Once.{once, OneTree, tree_in}
 use Rattle.layout.proofs.Depths.{depth_unique, found_there, there_found}
 use Rattle.layout.proofs.DepthLoop.{reached}
 use Rattle.layout.proofs.TreeLaws.{tree_of_lem, outline_at}
@@ -44,17 +45,17 @@ module _ (sorts : ℕ → ℕ → Sort) where
       (λ h. tt)
       (λ h. tt)
 
-  pub all_known : (i : ℕ) (rs : List NodeRecord) → any_from (λ _ r. unknown sorts r) i rs ≡ false → Known sorts (map node_of rs)
-  all_known i [] h = tt
-  all_known i (r ∷ rs) h =
-      let both = or_parts (unknown sorts r) (any_from (λ _ q. unknown sorts q) (i + 1) rs) h in
-      (known_record r both.0, all_known (i + 1) rs both.1)
+  pub all_known : (rs : List NodeRecord) → list_any (unknown sorts) rs ≡ false → Known sorts (map node_of rs)
+  all_known [] h = tt
+  all_known (r ∷ rs) h =
+      let both = or_parts (unknown sorts r) (list_any (unknown sorts) rs) h in
+      (known_record r both.0, all_known rs both.1)
 
-module _ (ls : List Link) (some : 0 < length ls) (rises : Rising ls) (single : Once ls) where
+module _ (ls : List Link) (tree : OneTree ls) where
   -- every node has a depth, b bounding its number
   has_depth : (b i : ℕ) → i ≤ b → 1 ≤ i → i ≤ length ls → (d : ℕ) × At ls i d
   has_depth zero i l o h = absurd (omega arith)
-  has_depth (suc b) i l o h = elim (reached 0 ls some rises single i o h (i - 1) (omega arith)) [
+  has_depth (suc b) i l o h = elim (reached 0 ls tree i o h (i - 1) (omega arith)) [
     | inl e ↦ (1, subst (λ n. At ls n 1) (sym e) at_root)
     | inr s ↦
         let j = s.0 in
@@ -66,26 +67,24 @@ module _ (ls : List Link) (some : 0 < length ls) (rises : Rising ls) (single : O
   ]
 
   pub depths : Depths ls
-  depths = record { each = λ i o h. has_depth i i (omega arith) o h; only = λ i d e p q. depth_unique ls some rises single p q refl }
+  depths = record { each = λ i o h. has_depth i i (omega arith) o h; only = λ i d e p q. depth_unique ls tree p q refl }
 
   pub shallow : (most : ℕ) → too_deep most ls ≡ false → Shallow most ls
   shallow most h i d p = elim (cases_lt most d) [
-    | inl l ↦ absurd (both_ways (too_deep most ls) h (there_found ls some rises single most (i, d, p, l)))
+    | inl l ↦ absurd (both_ways (too_deep most ls) h (there_found ls tree most (i, d, p, l)))
     | inr l ↦ l
   ]
 
   pub deep : (most : ℕ) → too_deep most ls ≡ true → Deep most ls
-  deep most h = found_there ls some rises single most (length ls) 1 1 (λ _. at_root) h
+  deep most h = found_there ls tree most (length ls) 1 1 (λ _. at_root) h
 
 module _ (sorts : ℕ → ℕ → Sort) (bytes : List ℕ) (n k : ℕ) (sized : Sized bytes n k) where
   told : (o : Option Refusal) → judged limits sorts k (records_in bytes) ≡ o → DepthTold bytes (answer o)
   told None e =
       let rs = records_in bytes in
       let p = passed limits sorts k rs e in
-      let some : 0 < length (links_in rs) = omega (arith, length-map rs link_in, records_count bytes n k sized, sized.some) in
-      let rises = rising_in rs p.0.rising in
-      let single = once_in rs p.0.once in
-      (depths (links_in rs) some rises single, shallow (links_in rs) some rises single 16 p.1)
+      let tree = tree_in rs (omega (arith, records_count bytes n k sized, sized.some)) p.0.rising p.0.once in
+      (depths (links_in rs) tree, shallow (links_in rs) tree 16 p.1)
   told (Some Size) e = tt
   told (Some Bits) e = tt
   told (Some Links) e = tt
@@ -95,21 +94,19 @@ module _ (sorts : ℕ → ℕ → Sort) (bytes : List ℕ) (n k : ℕ) (sized : 
   told (Some Depth) e =
       let rs = records_in bytes in
       let p = passed_deep limits sorts k rs e in
-      let some : 0 < length (links_in rs) = omega (arith, length-map rs link_in, records_count bytes n k sized, sized.some) in
-      let rises = rising_in rs p.0.rising in
-      let single = once_in rs p.0.once in
-      (depths (links_in rs) some rises single, deep (links_in rs) some rises single 16 p.1)
+      let tree = tree_in rs (omega (arith, records_count bytes n k sized, sized.some)) p.0.rising p.0.once in
+      (depths (links_in rs) tree, deep (links_in rs) tree 16 p.1)
 
   pub depth_told : DepthTold bytes (answer (refusal sorts bytes))
   depth_told = subst (λ o. DepthTold bytes (answer o)) (judged_file bytes n k sized sorts) (told (judged limits sorts k (records_in bytes)) refl)
 
   pub accepted_known : refusal sorts bytes ≡ None → Known sorts (map node_of (records_in bytes))
-  accepted_known h = all_known sorts 1 (records_in bytes) (passed limits sorts k (records_in bytes) (judged_file bytes n k sized sorts ∙ h)).0.known
+  accepted_known h = all_known sorts (records_in bytes) (passed limits sorts k (records_in bytes) (judged_file bytes n k sized sorts ∙ h)).0.known
 
 -- done means that there is no refusal
 pub none_refused : (o : Option Refusal) → Ok tt ≡ answer o → o ≡ None
 none_refused None e = refl
-none_refused (Some x) e = absurd (let z : ◌≡◌ {A = ℕ} 0 1 = cc in omega arith)
+none_refused (Some x) e = absurd (false≢true (ap is_err e))
 
 -- what an accepted answer gives
 pub when_accepted : (r : Result (Unit {0}) Refusal) (o : Option Refusal) (A C B : Type 0) → r ≡ answer o → MatchResult r (λ _. A) (λ _. B) → (o ≡ None → A → C) → MatchResult r (λ _. C) (λ _. B)
@@ -129,16 +126,13 @@ left_from n i = cond (eqb i 0) 0 (suc n - i)
 pub link_falls : (n i c : ℕ) → 0 < i → i ≤ n → Above n i c → left_from n c < left_from n i
 link_falls n i c o h a =
     let here : left_from n i ≡ suc n - i = cond-false (eqb i 0) 0 (suc n - i) (ne_eqb i 0 (λ e. omega arith)) in
-    cond_both (eqb c 0) 0 (suc n - c) (λ m. m < left_from n i) (λ _. omega (arith, here)) (λ e. omega (arith, here, a.0, a.1 (below c e)))
-  where
-    below : (m : ℕ) → eqb m 0 ≡ false → 0 < m
-    below m e = elim (cases_lt 0 m) [ inl l ↦ l | inr l ↦ absurd (eqb-false m 0 e (omega arith)) ]
+    cond_both (eqb c 0) 0 (suc n - c) (λ m. m < left_from n i) (λ _. omega (arith, here)) (λ e. omega (arith, here, a.0, a.1 (positive c e)))
 
 -- an outline that goes on: a node, what is below it, and its later siblings
-pub outline_more : {first behind all : List Entry} (most : ℕ) (nodes : List Node) (constants : List ℤ) (before : List Entry) (d i c x : ℕ) → hang_ill most (links nodes) ≡ false → 0 < i → i ≤ length nodes → c ≡ child_of (node_at nodes i).shape → x ≡ (node_at nodes i).next → first ≡ before ++ entry i d ∷ [] → behind ≡ first ++ outline_of (d + 1) (parts_at nodes constants c) → all ≡ behind ++ outline_of d (parts_at nodes constants x) → all ≡ before ++ outline_of d (parts_at nodes constants i)
+pub outline_more : {first behind all : List Entry} (most : ℕ) (nodes : List Node) (constants : List ℤ) (before : List Entry) (d i c x : ℕ) → hang_ill most (links nodes) ≡ false → 0 < i → i ≤ length nodes → c ≡ child_number (node_at nodes i).shape → x ≡ (next_number (node_at nodes i)) → first ≡ before ++ entry i d ∷ [] → behind ≡ first ++ outline_of (d + 1) (parts_at nodes constants c) → all ≡ behind ++ outline_of d (parts_at nodes constants x) → all ≡ before ++ outline_of d (parts_at nodes constants i)
 outline_more {first} {behind} most nodes constants before d i c x hang o h ce xe f b a =
-    let below = outline_of (d + 1) (parts_at nodes constants (child_of (node_at nodes i).shape)) in
-    let rest = outline_of d (parts_at nodes constants (node_at nodes i).next) in
+    let below = outline_of (d + 1) (parts_at nodes constants (child_number (node_at nodes i).shape)) in
+    let rest = outline_of d (parts_at nodes constants (next_number (node_at nodes i))) in
     a
     ∙ ap (λ n. behind ++ outline_of d (parts_at nodes constants n)) xe
     ∙ ap (λ es. es ++ rest) (b ∙ ap (λ n. first ++ outline_of (d + 1) (parts_at nodes constants n)) ce ∙ ap (λ es. es ++ below) f)
@@ -147,7 +141,3 @@ outline_more {first} {behind} most nodes constants before d i c x hang o h ce xe
   where
     regroup : (xs : List Entry) (e : Entry) (ys zs : List Entry) → ((xs ++ e ∷ []) ++ ys) ++ zs ≡ xs ++ (e ∷ (ys ++ zs))
     regroup xs e ys zs = simp append_assoc
-
-pub made_then : {X Y : Type 0} (r : Result X Y) (P Q : X → Type 0) → IfOk r P → ((x : X) → P x → Q x) → IfOk r Q
-made_then (Ok x) P Q h f = f x h
-made_then (Err y) P Q h f = tt

@@ -1,20 +1,21 @@
 -- A node that is child or next of exactly one.
-use Rattle.std.proofs.Common.{◌≡◌, ℕ, zero, suc, ◌+◌, ◌-◌, ◌<◌, ◌≤◌, Bool, true, false, not, eqb, ltb, ◌⊎◌, List, [], ◌∷◌, length, get_or, sym, refl, ap, ◌∙◌, subst, inl, inr, arith}
+use Rattle.std.proofs.Common.{◌≡◌, ℕ, zero, suc, ◌+◌, ◌<◌, ◌≤◌, Bool, true, false, not, eqb, ltb, ◌⊎◌, List, [], ◌∷◌, length, get_or, sym, refl, ap, ◌∙◌, inl, inr, arith}
 use Rattle.std.proofs.lemmas.Bool.{and_cases, not-false, eqb-true, eq-eqb, ltb-false, cases_order}
 use Rattle.packed.specs.declared.record.NodeRecord.{NodeRecord}
 use Rattle.layout.specs.Shapes.{link_in, links_in}
-use Rattle.layout.specs.Links.{none, Link, link_at, one_if, leads, links_to, any_node, stranded}
-use Rattle.layout.proofs.Any.{any_at, any_map}
+use Rattle.layout.specs.Links.{Link, no_link, one_if, leads, links_to, any_node, ill_linked, stranded}
+use Rattle.std.proofs.lemmas.List.{length-map}
+use Rattle.layout.proofs.Rising.{Rising, rising_in}
+use Rattle.layout.proofs.Any.{node_lacks, any_map}
 
-one_at : (b : Bool) → b ≡ true → one_if b ≡ 1
-one_at true e = refl
-one_at false e = absurd (let z : ◌≡◌ {A = ℕ} 0 1 = cc in omega arith)
+pub one_since : (a b : ℕ) → a ≡ b → one_if (eqb a b) ≡ 1
+one_since a b h = ap one_if (eq-eqb a b h)
 
 pub own_child : (k : ℕ) (l : Link) → l.child ≡ k → leads k l ≡ 1 + one_if (eqb l.next k)
-own_child k l e = ap (λ n. n + one_if (eqb l.next k)) (one_at (eqb l.child k) (eq-eqb l.child k e))
+own_child k l e = ap (λ n. n + one_if (eqb l.next k)) (one_since l.child k e)
 
 pub own_next : (k : ℕ) (l : Link) → l.next ≡ k → leads k l ≡ one_if (eqb l.child k) + 1
-own_next k l e = ap (λ n. one_if (eqb l.child k) + n) (one_at (eqb l.next k) (eq-eqb l.next k e))
+own_next k l e = ap (λ n. one_if (eqb l.child k) + n) (one_since l.next k e)
 
 one_cases : (a b : ℕ) → 0 < one_if (eqb a b) → a ≡ b
 one_cases a b h = of (eqb a b) refl h
@@ -54,20 +55,14 @@ abbrev pub Once : List Link → Type 0
 Once ls = (k : ℕ) → 1 < k → k ≤ length ls → links_to k ls ≡ 1
 
 pub once : (ls : List Link) → any_node (stranded ls) ls ≡ false → Once ls
-once ls h k o l =
-    let e : 1 + (k - 1) ≡ k = omega arith in
-    let f : stranded ls (1 + (k - 1)) (link_at ls k) ≡ false = any_at (stranded ls) 1 ls h (k - 1) record { arity = none; child = 0; next = 0 } (omega arith) in
-    once_of (subst (λ n. stranded ls n (link_at ls k) ≡ false) e f)
-  where
-    once_of : stranded ls k (link_at ls k) ≡ false → links_to k ls ≡ 1
-    once_of g = elim (and_cases (ltb 1 k) (not (eqb (links_to k ls) 1)) g) [
-      | inl a ↦ absurd (omega (arith, ltb-false 1 k a))
-      | inr a ↦ eqb-true (links_to k ls) 1 (not-false (eqb (links_to k ls) 1) a)
-    ]
+once ls h k o l = elim (and_cases (ltb 1 k) (not (eqb (links_to k ls) 1)) (node_lacks (stranded ls) ls h k no_link (omega arith) l)) [
+  | inl a ↦ absurd (omega (arith, ltb-false 1 k a))
+  | inr a ↦ eqb-true (links_to k ls) 1 (not-false (eqb (links_to k ls) 1) a)
+]
 
 -- the same from the records
 pub once_in : (rs : List NodeRecord) → any_node (λ i r. stranded (links_in rs) i (link_in r)) rs ≡ false → Once (links_in rs)
-once_in rs h = once (links_in rs) (any_map (stranded (links_in rs)) link_in 1 rs ∙ h)
+once_in rs h = once (links_in rs) (any_map (stranded (links_in rs)) link_in 0 rs ∙ h)
 
 -- the only node that leads to k
 pub same_source : (ls : List Link) (k i j : ℕ) (d : Link) → links_to k ls ≡ 1 → i < length ls → j < length ls → 0 < leads k (get_or ls i d) → 0 < leads k (get_or ls j d) → i ≡ j
@@ -75,3 +70,13 @@ same_source ls k i j d e hi hj a b = elim (cases_order i j) [
   | inl s ↦ s
   | inr s ↦ elim s [ inl lt ↦ absurd (omega (arith, own_two k ls i j d lt hj)) | inr gt ↦ absurd (omega (arith, own_two k ls j i d gt hi)) ]
 ]
+
+-- the nodes hang together as one tree, however deep
+pub record OneTree (ls : List Link) : Type 0 where
+  pub some : 0 < length ls
+  pub rises : Rising ls
+  pub once : Once ls
+
+-- the same from the records
+pub tree_in : (rs : List NodeRecord) → 0 < length rs → any_node (λ i r. ill_linked (links_in rs) i (link_in r)) rs ≡ false → any_node (λ i r. stranded (links_in rs) i (link_in r)) rs ≡ false → OneTree (links_in rs)
+tree_in rs o rising once = record { some = omega (arith, length-map rs link_in); rises = rising_in rs rising; once = once_in rs once }

@@ -1,10 +1,10 @@
 -- Links that are not astray rise, and stay in the table.
-use Rattle.std.proofs.Common.{◌≡◌, ℕ, ◌+◌, ◌-◌, ◌<◌, ◌≤◌, false, ◌&&◌, ◌||◌, eqb, ltb, leb, List, length, ◌∙◌, subst, inl, inr, arith}
-use Rattle.std.proofs.lemmas.Bool.{or_parts, and_cases, not-false, eqb-true, eqb-false, leb-false, ltb-false}
+use Rattle.std.proofs.Common.{◌≡◌, ℕ, ◌<◌, ◌≤◌, false, ◌&&◌, ◌||◌, eqb, ltb, leb, List, length, ◌∙◌, inl, inr, arith}
+use Rattle.std.proofs.lemmas.Bool.{or_parts, and_cases, not-false, eqb-true, eqb-false, leb-false, ltb-false, cases_lt}
 use Rattle.packed.specs.declared.record.NodeRecord.{NodeRecord}
 use Rattle.layout.specs.Shapes.{link_in, links_in}
-use Rattle.layout.specs.Links.{none, Link, link_at, is_set, any_node, astray, childless, crowded, ill_linked}
-use Rattle.layout.proofs.Any.{any_at, any_map}
+use Rattle.layout.specs.Links.{Link, no_link, link_at, is_set, any_node, astray, childless, crowded, ill_linked}
+use Rattle.layout.proofs.Any.{node_lacks, any_map}
 
 -- c is no node, or one above i
 abbrev pub Above : ℕ → ℕ → ℕ → Type 0
@@ -12,6 +12,9 @@ Above n i c = (c ≤ n) × (0 < c → i < c)
 
 pub unset : (n : ℕ) → is_set n ≡ false → n ≡ 0
 unset n h = eqb-true n 0 (not-false (eqb n 0) h)
+
+pub positive : (n : ℕ) → eqb n 0 ≡ false → 0 < n
+positive n h = elim (cases_lt 0 n) [ inl l ↦ l | inr l ↦ absurd (eqb-false n 0 h (omega arith)) ]
 
 pub above : (n i c : ℕ) → astray n i c ≡ false → Above n i c
 above n i c h = elim (and_cases (is_set c) (leb c i || ltb n c) h) [
@@ -57,11 +60,8 @@ abbrev pub Rising : List Link → Type 0
 Rising ls = (i : ℕ) → 0 < i → i ≤ length ls → Linked ls i (link_at ls i)
 
 pub rising : (ls : List Link) → any_node (ill_linked ls) ls ≡ false → Rising ls
-rising ls h i o l =
-    let e : 1 + (i - 1) ≡ i = omega arith in
-    let f : ill_linked ls (1 + (i - 1)) (link_at ls i) ≡ false = any_at (ill_linked ls) 1 ls h (i - 1) record { arity = none; child = 0; next = 0 } (omega arith) in
-    linked ls i (link_at ls i) (subst (λ k. ill_linked ls k (link_at ls i) ≡ false) e f)
+rising ls h i o l = linked ls i (link_at ls i) (node_lacks (ill_linked ls) ls h i no_link o l)
 
 -- the same from the records
 pub rising_in : (rs : List NodeRecord) → any_node (λ i r. ill_linked (links_in rs) i (link_in r)) rs ≡ false → Rising (links_in rs)
-rising_in rs h = rising (links_in rs) (any_map (ill_linked (links_in rs)) link_in 1 rs ∙ h)
+rising_in rs h = rising (links_in rs) (any_map (ill_linked (links_in rs)) link_in 0 rs ∙ h)

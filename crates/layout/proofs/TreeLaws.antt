@@ -1,30 +1,31 @@
 -- The tree of a table whose nodes hang together.
-use Rattle.std.proofs.Common.{◌≡◌, ℕ, zero, suc, ◌+◌, ◌-◌, ◌<◌, ◌≤◌, max, false, ◌||◌, eqb, ltb, ◌⊎◌, List, [], ◌∷◌, ◌++◌, length, get_or, ℤ, sym, refl, ap, ◌∙◌, subst, ap₂, inl, inr, arith}
+use Rattle.std.proofs.Common.{◌≡◌, ℕ, zero, suc, ◌+◌, ◌-◌, ◌<◌, ◌≤◌, max, false, ◌||◌, eqb, ltb, ◌⊎◌, List, [], ◌∷◌, ◌++◌, length, get_or, ℤ, Option, sym, refl, ap, ◌∙◌, subst, ap₂, inl, inr, arith}
 use Rattle.std.proofs.lemmas.List.{append-nil, length-map}
-use Rattle.std.proofs.lemmas.Bool.{or_parts, ltb-false, eqb-false, eq-eqb, ne_eqb, cases_eq}
+use Rattle.std.proofs.lemmas.Bool.{or_parts, ltb-false, ne_eqb, cases_eq}
+use Rattle.layout.specs.declared.node.Relation.{Relation}
 use Rattle.layout.specs.declared.node.Shape.{Shape}
 use Rattle.layout.specs.declared.node.Shape.TheVariants.{Field, Mark, Sequence, Choice, Optional, Check}
 use Rattle.layout.specs.declared.node.Node.{Node}
-use Rattle.layout.specs.Links.{none, Link, link_at, one_if, leads, links_to, childless, crowded, deeper, too_deep}
-use Rattle.layout.specs.Shapes.{arity_of, link_of, links}
-use Rattle.layout.specs.Trees.{Parts, end, ◌then◌, node_at, child_of, part_of, parts_in, parts_at, part_at, tree_of, Stands, nothing, siblings, numbers, numbers_of, entry, outline, outline_of, height, height_of, SomePart, OnePart, Filled, AllFilled, times, TreeOf}
+use Rattle.layout.specs.Links.{Link, no_link, link_at, one_if, leads, links_to, childless, crowded, deeper, too_deep}
+use Rattle.layout.specs.Shapes.{names_none, arity_of, link_of, links}
+use Rattle.layout.specs.Trees.{Operand, Part, Parts, field, mark, check, sequence, choice, optional, end, ◌then◌, blank, node_at, child_of, child_number, next_number, operand_of, part_of, parts_in, parts_at, part_at, tree_of, Stands, nothing, siblings, numbers, numbers_of, entry, outline, outline_of, height, height_of, SomePart, OnePart, Filled, AllFilled, times, TreeOf}
 use Rattle.layout.proofs.Views.{get_view}
-use Rattle.layout.proofs.Rising.{Above, Rising, Linked, unset}
-use Rattle.layout.proofs.Once.{Once, own_child, own_next, own_cases, own_le, own_some, same_source}
+use Rattle.layout.proofs.Rising.{Above, Rising, Linked, unset, positive}
+use Rattle.layout.proofs.Once.{Once, one_since, own_child, own_next, own_cases, own_le, own_some, same_source}
 
 -- the link of node i is that of its node
 pub link_at_lem : (nodes : List Node) (i : ℕ) → link_at (links nodes) i ≡ link_of (node_at nodes i)
-link_at_lem nodes i = get_view link_of nodes (i - 1) record { shape = Mark 0; next = 0 }
+link_at_lem nodes i = get_view link_of nodes (i - 1) blank
 
 module _ (nodes : List Node) (constants : List ℤ) (rises : Rising (links nodes)) where
   abbrev count : ℕ
   count = length nodes
 
   abbrev child_at : ℕ → ℕ
-  child_at i = child_of (node_at nodes i).shape
+  child_at i = child_number (node_at nodes i).shape
 
   abbrev next_at : ℕ → ℕ
-  next_at i = (node_at nodes i).next
+  next_at i = next_number (node_at nodes i)
 
   -- node i is well linked
   pub linked_at : (i : ℕ) → 0 < i → i ≤ count → Linked (links nodes) i (link_of (node_at nodes i))
@@ -35,6 +36,18 @@ module _ (nodes : List Node) (constants : List ℤ) (rises : Rising (links nodes
 
   pub next_above : (i : ℕ) → 0 < i → i ≤ count → Above count i (next_at i)
   next_above i o h = subst (λ n. Above n i (next_at i)) (length-map nodes link_of) (linked_at i o h).next
+
+  -- its child, where it has one, is a node
+  shape_named : (s : Shape) → childless (arity_of s) (child_number s) ≡ false → names_none (child_of s) ≡ false
+  shape_named (Field kind parameter column) h = refl
+  shape_named (Mark byte) h = refl
+  shape_named (Sequence child) h = h
+  shape_named (Choice child) h = h
+  shape_named (Optional child) h = h
+  shape_named (Check relation left right) h = refl
+
+  pub child_named : (i : ℕ) → 0 < i → i ≤ count → names_none (child_of (node_at nodes i).shape) ≡ false
+  child_named i o h = shape_named (node_at nodes i).shape (linked_at i o h).needs
 
   abbrev made : ℕ → Parts → Parts → Parts
   made i below rest = part_of constants i (node_at nodes i).shape below then rest
@@ -93,14 +106,18 @@ module _ (nodes : List Node) (constants : List ℤ) (rises : Rising (links nodes
   parts_none zero = refl
   parts_none (suc f) = refl
 
+  -- what holds of every part and what is below it holds of a node's: where it has no child, nothing is below
+  at_part : (P : Part → Parts → Type 0) (i : ℕ) → ((k p : ℕ) (c : Option ℕ) → P (field i k p c) end) → ((b : ℕ) → P (mark i b) end) → ((r : Relation) (l : ℕ) (o : Operand) → P (check i r l o) end) → ((ps : Parts) → P (sequence i ps) ps) → ((ps : Parts) → P (choice i ps) ps) → ((ps : Parts) → P (optional i ps) ps) → (f : ℕ) (s : Shape) → P (part_of constants i s (parts_in nodes constants f (child_number s))) (parts_in nodes constants f (child_number s))
+  at_part P i a b c d e g f (Field kind parameter column) = subst (P (field i kind parameter column)) (sym (parts_none f)) (a kind parameter column)
+  at_part P i a b c d e g f (Mark byte) = subst (P (mark i byte)) (sym (parts_none f)) (b byte)
+  at_part P i a b c d e g f (Sequence child) = d (parts_in nodes constants f child)
+  at_part P i a b c d e g f (Choice child) = e (parts_in nodes constants f child)
+  at_part P i a b c d e g f (Optional child) = g (parts_in nodes constants f child)
+  at_part P i a b c d e g f (Check relation left right) = subst (P (check i relation left (operand_of constants right))) (sym (parts_none f)) (c relation left (operand_of constants right))
+
   -- a part's numbers: its own, and those below it
-  part_numbers : (i f : ℕ) (s : Shape) → numbers (part_of constants i s (parts_in nodes constants f (child_of s))) ≡ i ∷ numbers_of (parts_in nodes constants f (child_of s))
-  part_numbers i f (Field kind parameter column) = ap (λ ps. i ∷ numbers_of ps) (sym (parts_none f))
-  part_numbers i f (Mark byte) = ap (λ ps. i ∷ numbers_of ps) (sym (parts_none f))
-  part_numbers i f (Sequence child) = refl
-  part_numbers i f (Choice child) = refl
-  part_numbers i f (Optional child) = refl
-  part_numbers i f (Check relation left right) = ap (λ ps. i ∷ numbers_of ps) (sym (parts_none f))
+  part_numbers : (i f : ℕ) (s : Shape) → numbers (part_of constants i s (parts_in nodes constants f (child_number s))) ≡ i ∷ numbers_of (parts_in nodes constants f (child_number s))
+  part_numbers i = at_part (λ q below. numbers q ≡ i ∷ numbers_of below) i (λ _ _ _. refl) (λ _. refl) (λ _ _ _. refl) (λ _. refl) (λ _. refl) (λ _. refl)
 
   -- how often k stands among node i, its later siblings and what is below them
   abbrev occurs : ℕ → ℕ → ℕ → ℕ
@@ -123,9 +140,6 @@ module _ (nodes : List Node) (constants : List ℤ) (rises : Rising (links nodes
 
   zero_if : (a b : ℕ) → (a ≡ b → ⊥) → one_if (eqb a b) ≡ 0
   zero_if a b h = ap one_if (ne_eqb a b h)
-
-  one_since : (a b : ℕ) → a ≡ b → one_if (eqb a b) ≡ 1
-  one_since a b h = ap one_if (eq-eqb a b h)
 
   -- a link is no node, or one above
   at_link : (P : ℕ → Type 0) (i c : ℕ) → Above count i c → P 0 → (i < c → c ≤ count → P c) → P c
@@ -168,13 +182,13 @@ module _ (nodes : List Node) (constants : List ℤ) (rises : Rising (links nodes
     -- the one node that leads to k: it is below k, and leads to it once
     source : (k : ℕ) → 1 < k → k ≤ count → (j : ℕ) × (0 < j) × (j < k) × (leads_of j k ≡ 1)
     source k o h =
-        let r = own_some k (links nodes) record { arity = none; child = 0; next = 0 } (omega (arith, once_at k o h)) in
+        let r = own_some k (links nodes) no_link (omega (arith, once_at k o h)) in
         let j = r.0 + 1 in
         let long = length-map nodes link_of in
         let in-range : j ≤ count = omega (arith, r.1) in
         let back : j - 1 ≡ r.0 = omega arith in
-        let at : 0 < leads_of j k = subst (λ n. 0 < n) (leads_is j k) (subst (λ n. 0 < leads k (get_or (links nodes) n record { arity = none; child = 0; next = 0 })) (sym back) r.2) in
-        let most : leads_of j k ≤ 1 = subst (λ n. n ≤ 1) (leads_is j k) (omega (arith, own_le k (links nodes) (j - 1) record { arity = none; child = 0; next = 0 } (omega (arith, r.1)), once_at k o h)) in
+        let at : 0 < leads_of j k = subst (λ n. 0 < n) (leads_is j k) (subst (λ n. 0 < leads k (get_or (links nodes) n no_link)) (sym back) r.2) in
+        let most : leads_of j k ≤ 1 = subst (λ n. n ≤ 1) (leads_is j k) (omega (arith, own_le k (links nodes) (j - 1) no_link (omega (arith, r.1)), once_at k o h)) in
         let below : j < k = elim (own_cases k (link_of (node_at nodes j)) at) [
           | inl e ↦ omega (arith, (child_above j (omega arith) in-range).1 (omega (arith, e)))
           | inr e ↦ omega (arith, (next_above j (omega arith) in-range).1 (omega (arith, e)))
@@ -189,7 +203,7 @@ module _ (nodes : List Node) (constants : List ℤ) (rises : Rising (links nodes
           let long = length-map nodes link_of in
           let a : 0 < leads k (link_at (links nodes) i) = omega (arith, leads_is i k) in
           let b : 0 < leads k (link_at (links nodes) j) = omega (arith, leads_is j k) in
-          absurd (n (omega (arith, same_source (links nodes) k (i - 1) (j - 1) record { arity = none; child = 0; next = 0 } (once_at k o h) (omega arith) (omega arith) a b)))
+          absurd (n (omega (arith, same_source (links nodes) k (i - 1) (j - 1) no_link (once_at k o h) (omega arith) (omega arith) a b)))
     ]
 
     not_child : (i k : ℕ) → leads_of i k ≡ 0 → child_at i ≡ k → ⊥
@@ -244,13 +258,8 @@ module _ (nodes : List Node) (constants : List ℤ) (rises : Rising (links nodes
           ∙ occurs_once f b s.0 w (omega (arith, s.2)) s.1 (omega (arith, s.2))
     ]
 
-  part_outline : (d i f : ℕ) (s : Shape) → outline d (part_of constants i s (parts_in nodes constants f (child_of s))) ≡ entry i d ∷ outline_of (d + 1) (parts_in nodes constants f (child_of s))
-  part_outline d i f (Field kind parameter column) = ap (λ ps. entry i d ∷ outline_of (d + 1) ps) (sym (parts_none f))
-  part_outline d i f (Mark byte) = ap (λ ps. entry i d ∷ outline_of (d + 1) ps) (sym (parts_none f))
-  part_outline d i f (Sequence child) = refl
-  part_outline d i f (Choice child) = refl
-  part_outline d i f (Optional child) = refl
-  part_outline d i f (Check relation left right) = ap (λ ps. entry i d ∷ outline_of (d + 1) ps) (sym (parts_none f))
+  part_outline : (d i f : ℕ) (s : Shape) → outline d (part_of constants i s (parts_in nodes constants f (child_number s))) ≡ entry i d ∷ outline_of (d + 1) (parts_in nodes constants f (child_number s))
+  part_outline d i = at_part (λ q below. outline d q ≡ entry i d ∷ outline_of (d + 1) below) i (λ _ _ _. refl) (λ _. refl) (λ _ _ _. refl) (λ _. refl) (λ _. refl) (λ _. refl)
 
   -- a node, what is below it, and its later siblings
   pub outline_at : (d i : ℕ) → 0 < i → i ≤ count → outline_of d (parts_at nodes constants i) ≡ entry i d ∷ (outline_of (d + 1) (parts_at nodes constants (child_at i)) ++ outline_of d (parts_at nodes constants (next_at i)))
@@ -258,13 +267,8 @@ module _ (nodes : List Node) (constants : List ℤ) (rises : Rising (links nodes
       ap (outline_of d) (parts_at_lem i o h)
       ∙ ap (λ es. es ++ outline_of d (parts_at nodes constants (next_at i))) (part_outline d i (suc count) (node_at nodes i).shape)
 
-  part_height : (i f : ℕ) (s : Shape) → height (part_of constants i s (parts_in nodes constants f (child_of s))) ≡ 1 + height_of (parts_in nodes constants f (child_of s))
-  part_height i f (Field kind parameter column) = ap (λ ps. 1 + height_of ps) (sym (parts_none f))
-  part_height i f (Mark byte) = ap (λ ps. 1 + height_of ps) (sym (parts_none f))
-  part_height i f (Sequence child) = refl
-  part_height i f (Choice child) = refl
-  part_height i f (Optional child) = refl
-  part_height i f (Check relation left right) = ap (λ ps. 1 + height_of ps) (sym (parts_none f))
+  part_height : (i f : ℕ) (s : Shape) → height (part_of constants i s (parts_in nodes constants f (child_number s))) ≡ 1 + height_of (parts_in nodes constants f (child_number s))
+  part_height i = at_part (λ q below. height q ≡ 1 + height_of below) i (λ _ _ _. refl) (λ _. refl) (λ _ _ _. refl) (λ _. refl) (λ _. refl) (λ _. refl)
 
   -- where no node from i on lies too deep, the levels from i on are few
   few_levels : (most f d i : ℕ) → deeper most (links nodes) f d i ≡ false → height_of (parts_in nodes constants f i) ≤ (most + 1) - d
@@ -288,19 +292,15 @@ module _ (nodes : List Node) (constants : List ℤ) (rises : Rising (links nodes
   one_below f zero o e = absurd (omega arith)
   one_below f (suc j) o e = subst (λ ps. OnePart (part_of constants (suc j) (node_at nodes (suc j)).shape (parts_in nodes constants f (child_at (suc j))) then ps)) (sym (ap (parts_in nodes constants f) e ∙ parts_none f)) tt
 
-  set_since : (c : ℕ) → eqb c 0 ≡ false → 0 < c
-  set_since zero e = absurd (eqb-false 0 0 e refl)
-  set_since (suc c) e = omega arith
-
-  part_filled : (i f : ℕ) (s : Shape) → (0 < child_of s → 0 < f) → childless (arity_of s) (child_of s) ≡ false → crowded (arity_of s) (next_at (child_of s)) ≡ false → AllFilled (parts_in nodes constants f (child_of s)) → Filled (part_of constants i s (parts_in nodes constants f (child_of s)))
+  part_filled : (i f : ℕ) (s : Shape) → (0 < child_number s → 0 < f) → childless (arity_of s) (child_number s) ≡ false → crowded (arity_of s) (next_at (child_number s)) ≡ false → AllFilled (parts_in nodes constants f (child_number s)) → Filled (part_of constants i s (parts_in nodes constants f (child_number s)))
   part_filled i f (Field kind parameter column) more c w all = tt
   part_filled i f (Mark byte) more c w all = tt
-  part_filled i zero (Sequence child) more c w all = absurd (omega (arith, more (set_since child c)))
-  part_filled i (suc f) (Sequence child) more c w all = (some_below f child (set_since child c), all)
-  part_filled i zero (Choice child) more c w all = absurd (omega (arith, more (set_since child c)))
-  part_filled i (suc f) (Choice child) more c w all = (some_below f child (set_since child c), all)
-  part_filled i zero (Optional child) more c w all = absurd (omega (arith, more (set_since child c)))
-  part_filled i (suc f) (Optional child) more c w all = (one_below f child (set_since child c) (unset (next_at child) w), all)
+  part_filled i zero (Sequence child) more c w all = absurd (omega (arith, more (positive child c)))
+  part_filled i (suc f) (Sequence child) more c w all = (some_below f child (positive child c), all)
+  part_filled i zero (Choice child) more c w all = absurd (omega (arith, more (positive child c)))
+  part_filled i (suc f) (Choice child) more c w all = (some_below f child (positive child c), all)
+  part_filled i zero (Optional child) more c w all = absurd (omega (arith, more (positive child c)))
+  part_filled i (suc f) (Optional child) more c w all = (one_below f child (positive child c) (unset (next_at child) w), all)
   part_filled i f (Check relation left right) more c w all = tt
 
   all_filled : (f i : ℕ) → i ≤ count → within f i → AllFilled (parts_in nodes constants f i)

@@ -1,8 +1,9 @@
 -- A list seen through a function, and the links of records.
-use Rattle.std.proofs.Common.{◌≡◌, ℕ, zero, suc, ◌+◌, ◌-◌, ◌<◌, ◌≤◌, List, [], ◌∷◌, map, length, get_or, drop, refl, ap, ◌∙◌, arith}
-use Rattle.std.proofs.lemmas.List.{at_drop_more, at_drop_all}
+use Rattle.std.proofs.Common.{◌≡◌, ℕ, Bool, eqb, zero, suc, ◌+◌, ◌-◌, List, [], ◌∷◌, map, get_or, refl, ap, ap₂, ◌∙◌, arith}
+use Rattle.std.specs.List.{count_by}
+use Rattle.std.proofs.lemmas.List.Recursion.{is_sum_by}
 use Rattle.packed.specs.declared.record.NodeRecord.{NodeRecord}
-use Rattle.layout.specs.Links.{link_at, leads, links_to}
+use Rattle.layout.specs.Links.{link_at, one_if, links_to}
 use Rattle.layout.specs.Shapes.{link_in, links_in}
 
 pub get_view : {X Y : Type 0} (f : X → Y) (xs : List X) (i : ℕ) (d : X) → get_or (map f xs) i (f d) ≡ f (get_or xs i d)
@@ -21,9 +22,17 @@ link_in_lem rs i = get_view link_in rs (i - 1) blank
 pub link_next : (rs : List NodeRecord) (i : ℕ) → link_at (links_in rs) (i + 1) ≡ link_in (get_or rs i blank)
 link_next rs i = let e : i + 1 - 1 ≡ i = omega arith in link_in_lem rs (i + 1) ∙ ap (λ n. link_in (get_or rs n blank)) e
 
--- counting links: one node more, and the end
-pub links_more : (k : ℕ) (rs : List NodeRecord) (i : ℕ) (d : NodeRecord) → i < length rs → links_to k (links_in (drop i rs)) ≡ leads k (link_in (get_or rs i d)) + links_to k (links_in (drop (i + 1) rs))
-links_more k rs i d h = at_drop_more (λ xs. links_to k (links_in xs)) rs i d h
+-- how many elements pass a test
+abbrev tally : {X : Type 0} → (X → Bool) → List X → ℕ
+tally p [] = 0
+tally p (x ∷ xs) = one_if (p x) + tally p xs
 
-pub links_all : (k : ℕ) (rs : List NodeRecord) (i : ℕ) → length rs ≤ i → links_to k (links_in (drop i rs)) ≡ 0
-links_all k rs i h = at_drop_all (λ xs. links_to k (links_in xs)) rs i h
+-- links are counted by child and by next
+pub links_counted : (k : ℕ) (rs : List NodeRecord) → links_to k (links_in rs) ≡ count_by (λ r. eqb r.child k) rs + count_by (λ r. eqb r.next k) rs
+links_counted k rs =
+    by_both rs
+    ∙ ap₂ ◌+◌ (is_sum_by (tally (λ r. eqb r.child k)) (λ r. one_if (eqb r.child k)) refl (λ _ _. refl) rs) (is_sum_by (tally (λ r. eqb r.next k)) (λ r. one_if (eqb r.next k)) refl (λ _ _. refl) rs)
+  where
+    by_both : (qs : List NodeRecord) → links_to k (links_in qs) ≡ tally (λ r. eqb r.child k) qs + tally (λ r. eqb r.next k) qs
+    by_both [] = refl
+    by_both (q ∷ qs) = omega (arith, by_both qs)

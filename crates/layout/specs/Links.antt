@@ -1,5 +1,6 @@
 -- How nodes hang together by their numbers: children, siblings and depths.
-use Rattle.std.specs.Prelude.{◌≡◌, ℕ, zero, suc, ◌+◌, ◌-◌, ◌<◌, ◌≤◌, Bool, true, false, cond, not, ◌&&◌, ◌||◌, List, [], ◌∷◌, length, ◌==◌, nat_le, nat_lt, slice_index_or, slice_set}
+use Rattle.std.specs.Prelude.{◌≡◌, ℕ, zero, suc, ◌+◌, ◌-◌, ◌<◌, ◌≤◌, Bool, false, cond, not, ◌&&◌, ◌||◌, List, [], ◌∷◌, length, ◌==◌, nat_le, nat_lt, slice_index_or}
+use Rattle.std.specs.List.{list_any, enumerate_from}
 
 -- what may stand below a node: nothing, one part, or several
 pub data Arity : Type 0 where
@@ -11,21 +12,20 @@ pub record Link : Type 0 where
   pub child : ℕ
   pub next : ℕ
 
+-- the link of a node on which nothing hangs
+abbrev pub no_link : Link
+no_link = record { arity = none; child = 0; next = 0 }
+
 -- the link of node i, from 1
 abbrev pub link_at : List Link → ℕ → Link
-link_at ls i = slice_index_or ls (i - 1) record { arity = none; child = 0; next = 0 }
+link_at ls i = slice_index_or ls (i - 1) no_link
 
 abbrev pub is_set : ℕ → Bool
 is_set n = not (n == 0)
 
--- some element, numbered from i on, has the property
-abbrev pub any_from : {X : Type 0} → (ℕ → X → Bool) → ℕ → List X → Bool
-any_from f i [] = false
-any_from f i (x ∷ xs) = f i x || any_from f (i + 1) xs
-
--- some node has the property
+-- some node has the property, which sees its number, from 1
 abbrev pub any_node : {X : Type 0} → (ℕ → X → Bool) → List X → Bool
-any_node f xs = any_from f 1 xs
+any_node f xs = list_any (λ p. f (p.0 + 1) p.1) (enumerate_from 0 xs)
 
 -- a link of node i, of n nodes, that is set and not above i, or above n
 abbrev pub astray : ℕ → ℕ → ℕ → Bool
@@ -54,8 +54,7 @@ ill_linked ls i l =
     || ((i == 1 && is_set l.next) || ill_filled ls l.arity l.child)
 
 abbrev pub one_if : Bool → ℕ
-one_if true = 1
-one_if false = 0
+one_if b = cond b 1 0
 
 -- how often a node has k as child or next
 abbrev pub leads : ℕ → Link → ℕ
@@ -90,10 +89,6 @@ too_deep most ls = deeper most ls (length ls) 1 1
 -- the nodes hang together as one tree, no deeper than `most`
 abbrev pub hang_ill : ℕ → List Link → Bool
 hang_ill most ls = any_node (ill_linked ls) ls || (any_node (stranded ls) ls || too_deep most ls)
-
--- depths by node number from 1, with that of node i noted; 0 is no node
-abbrev pub noted : List ℕ → ℕ → ℕ → List ℕ
-noted depths i d = cond (i == 0) depths (slice_set depths (i - 1) d)
 
 -- every node has a depth, and one only
 pub record Depths (ls : List Link) : Type 0 where

@@ -2,6 +2,7 @@
 use Rattle.std.specs.Prelude.{◌≡◌, ℕ, ◌-◌, Bool, true, false, cond, not, ◌&&◌, ◌||◌, List, [], ◌∷◌, map, Some, None, Option, ◌==◌, nat_le, nat_lt}
 use Rattle.std.specs.Option.{unwrap_or}
 use Rattle.std.specs.List.{AllByRecursion}
+use Rattle.fields.specs.Meanings.{Meaning}
 use Rattle.fields.specs.declared.cause.Sort.{Sort}
 use Rattle.fields.specs.declared.cause.Sort.TheVariants.{Unknown, Numeric, Kept}
 use Rattle.packed.specs.declared.record.NodeRecord.{NodeRecord}
@@ -13,7 +14,7 @@ use Rattle.layout.specs.declared.node.Shape.{Shape}
 use Rattle.layout.specs.declared.node.Shape.TheVariants.{Field, Mark, Sequence, Choice, Optional, Check}
 use Rattle.layout.specs.declared.node.Node.{Node}
 use Rattle.layout.specs.Links.{Arity, none, one, several, Link, is_set}
-use Rattle.layout.specs.Trees.{child_of}
+use Rattle.layout.specs.Trees.{some_number, child_number, next_number}
 
 -- 1 equal, 2 unequal, 3 less, 4 at most; no other is accepted
 abbrev pub relation_of : ℕ → Relation
@@ -26,7 +27,7 @@ side_of p = cond (nat_le 64 p) (Constant (p - 64)) (Column p)
 -- 1 field, 2 mark, 3 sequence, 4 choice, 5 option, 7 check; any other number is no shape
 abbrev pub shape_of : NodeRecord → Option Shape
 shape_of r =
-    cond (r.shape == 1) (Some (Field r.kind r.parameter r.column))
+    cond (r.shape == 1) (Some (Field r.kind r.parameter (some_number r.column)))
     (cond (r.shape == 2) (Some (Mark r.parameter))
     (cond (r.shape == 3) (Some (Sequence r.child))
     (cond (r.shape == 4) (Some (Choice r.child))
@@ -35,7 +36,12 @@ shape_of r =
 
 -- the node of a record; a record without a shape is not accepted, and stands for a blank mark
 abbrev pub node_of : NodeRecord → Node
-node_of r = record { shape = unwrap_or (shape_of r) (Mark 0); next = r.next }
+node_of r = record { shape = unwrap_or (shape_of r) (Mark 0); next = some_number r.next }
+
+-- a number that names no node, since nodes count from 1
+abbrev pub names_none : Option ℕ → Bool
+names_none None = false
+names_none (Some n) = n == 0
 
 -- one of these numbers is not zero
 abbrev pub any_set : List ℕ → Bool
@@ -65,7 +71,7 @@ arity_of (Check relation left right) = none
 
 -- how a node hangs in its table
 abbrev pub link_of : Node → Link
-link_of n = record { arity = arity_of n.shape; child = child_of n.shape; next = n.next }
+link_of n = record { arity = arity_of n.shape; child = child_number n.shape; next = next_number n }
 
 -- the same of a record, whatever its shape
 abbrev pub link_in : NodeRecord → Link
@@ -81,6 +87,10 @@ abbrev pub is_unknown : Sort → Bool
 is_unknown Unknown = true
 is_unknown Numeric = false
 is_unknown Kept = false
+
+-- what a family makes of each kind with its parameter, where `means` is what the family means
+abbrev pub sorts : (ℕ → ℕ → Meaning) → ℕ → ℕ → Sort
+sorts means kind parameter = (means kind parameter).sort
 
 -- a field whose kind with its parameter is unknown
 abbrev pub unknown_by : (ℕ → ℕ → Sort) → Option Shape → Bool
@@ -117,12 +127,16 @@ abbrev pub outside : ℕ → ℕ → NodeRecord → Bool
 outside columns k r = outside_by columns k (shape_of r) r
 
 -- the same of a node: a field's column, a check's left column and its right side
+abbrev pub misplaced_column : ℕ → Option ℕ → Bool
+misplaced_column columns None = false
+misplaced_column columns (Some c) = not (within 1 columns c)
+
 abbrev pub misplaced_side : ℕ → ℕ → Side → Bool
 misplaced_side columns k (Column c) = not (within 1 columns c)
 misplaced_side columns k (Constant c) = not (nat_lt c k)
 
 abbrev pub misplaced : ℕ → ℕ → Shape → Bool
-misplaced columns k (Field kind parameter column) = nat_lt columns column
+misplaced columns k (Field kind parameter column) = misplaced_column columns column
 misplaced columns k (Mark byte) = false
 misplaced columns k (Sequence child) = false
 misplaced columns k (Choice child) = false

@@ -1,5 +1,6 @@
 -- The tree that a table of nodes stands for.
-use Rattle.std.specs.Prelude.{◌≡◌, ℕ, zero, suc, ◌+◌, ◌-◌, ◌<◌, ◌≤◌, max, List, [], ◌∷◌, ◌++◌, length, get_or, ℤ, pos, ◌==◌, slice_index_or}
+use Rattle.std.specs.Prelude.{◌≡◌, ℕ, zero, suc, ◌+◌, ◌-◌, ◌<◌, ◌≤◌, max, cond, List, [], ◌∷◌, ◌++◌, length, get_or, ℤ, pos, Some, None, Option, ◌==◌, slice_index_or}
+use Rattle.std.specs.Option.{unwrap_or}
 use Rattle.layout.specs.declared.node.Relation.{Relation}
 use Rattle.layout.specs.declared.node.Side.{Side}
 use Rattle.layout.specs.declared.node.Side.TheVariants.{Column, Constant}
@@ -17,7 +18,7 @@ pub data Operand : Type 0 where
 -- A part is a node with what is below it; `node` is its number. An optional part has one part below it.
 mutual
   pub data Part : Type 0 where
-    field : (node kind parameter column : ℕ) → Part
+    field : (node kind parameter : ℕ) (column : Option ℕ) → Part
     mark : (node byte : ℕ) → Part
     check : (node : ℕ) (relation : Relation) (left : ℕ) (right : Operand) → Part
     sequence choice optional : (node : ℕ) → Parts → Part
@@ -28,18 +29,37 @@ mutual
     ◌then◌ : Part → Parts → Parts
 
 infixr 40 ◌then◌
+-- the number of a node or a column where there is one: 0 is none
+abbrev pub some_number : ℕ → Option ℕ
+some_number n = cond (n == 0) None (Some n)
+
+-- that number, and 0 for none
+abbrev pub or_zero : Option ℕ → ℕ
+or_zero o = unwrap_or o 0
+
+-- a mark of byte 00 without a next
+abbrev pub blank : Node
+blank = record { shape = Mark 0; next = None }
+
 -- node number i, from 1; past the table a blank mark, and 0 is taken for 1
 abbrev pub node_at : List Node → ℕ → Node
-node_at nodes i = get_or nodes (i - 1) record { shape = Mark 0; next = 0 }
+node_at nodes i = get_or nodes (i - 1) blank
 
--- the first node below, 0 for none
-abbrev pub child_of : Shape → ℕ
-child_of (Field kind parameter column) = 0
-child_of (Mark byte) = 0
-child_of (Sequence child) = child
-child_of (Choice child) = child
-child_of (Optional child) = child
-child_of (Check relation left right) = 0
+-- the first node below, of a shape that has parts
+abbrev pub child_of : Shape → Option ℕ
+child_of (Field kind parameter column) = None
+child_of (Mark byte) = None
+child_of (Sequence child) = Some child
+child_of (Choice child) = Some child
+child_of (Optional child) = Some child
+child_of (Check relation left right) = None
+
+-- its number, and that of the following sibling, 0 for none
+abbrev pub child_number : Shape → ℕ
+child_number s = or_zero (child_of s)
+
+abbrev pub next_number : Node → ℕ
+next_number n = or_zero n.next
 
 abbrev pub operand_of : List ℤ → Side → Operand
 operand_of constants (Column c) = column_value c
@@ -60,7 +80,7 @@ parts_in nodes constants zero i = end
 parts_in nodes constants (suc fuel) zero = end
 parts_in nodes constants (suc fuel) (suc j) =
     let n = node_at nodes (suc j) in
-    part_of constants (suc j) n.shape (parts_in nodes constants fuel (child_of n.shape)) then parts_in nodes constants fuel n.next
+    part_of constants (suc j) n.shape (parts_in nodes constants fuel (child_number n.shape)) then parts_in nodes constants fuel (next_number n)
 
 -- links rise, so that the number of nodes is fuel enough
 abbrev pub parts_at : List Node → List ℤ → ℕ → Parts
@@ -68,7 +88,7 @@ parts_at nodes constants i = parts_in nodes constants (suc (length nodes)) i
 
 -- node i with what is below it, without its siblings
 abbrev pub part_at : List Node → List ℤ → ℕ → Part
-part_at nodes constants i = part_of constants i (node_at nodes i).shape (parts_at nodes constants (child_of (node_at nodes i).shape))
+part_at nodes constants i = part_of constants i (node_at nodes i).shape (parts_at nodes constants (child_number (node_at nodes i).shape))
 
 -- the tree of a table: its root
 abbrev pub tree_of : List Node → List ℤ → Part
@@ -77,7 +97,7 @@ tree_of nodes constants = part_at nodes constants 1
 -- Node i and its later siblings, each with what is below it, are these parts; 0 is no node.
 pub data Stands (nodes : List Node) (constants : List ℤ) : ℕ → Parts → Type 0 where
   nothing : Stands nodes constants 0 end
-  siblings : {i : ℕ} {below rest : Parts} → 0 < i → i ≤ length nodes → Stands nodes constants (child_of (node_at nodes i).shape) below → Stands nodes constants (node_at nodes i).next rest → Stands nodes constants i (part_of constants i (node_at nodes i).shape below then rest)
+  siblings : {i : ℕ} {below rest : Parts} → 0 < i → i ≤ length nodes → Stands nodes constants (child_number (node_at nodes i).shape) below → Stands nodes constants (next_number (node_at nodes i)) rest → Stands nodes constants i (part_of constants i (node_at nodes i).shape below then rest)
 
 -- the numbers of the nodes, each before those below it
 abbrev mutual

@@ -1,8 +1,8 @@
 // Tests of one node of a table: each refusal but that of the depth is a test that some node meets.
-ghost use Rattle.std.specs.Prelude.{◌≡◌, ℕ, ◌+◌, Bool, ◌&&◌, ◌||◌, length, ◌==◌};
-ghost use Rattle.packed.specs.declared.record.NodeRecord.{NodeRecord as Packed};
-ghost use Rattle.layout.specs.Links.{any_from, astray, ill_filled, ill_linked, is_set, leads, link_at, links_to, stranded};
-ghost use Rattle.layout.specs.Shapes.{stray, link_in, links_in, unknown, is_side, outside};
+ghost use Rattle.std.specs.Prelude.{◌≡◌, ◌≤◌, length};
+ghost use Rattle.std.specs.List.{list_any};
+ghost use Rattle.layout.specs.Links.{any_node, astray, ill_filled, ill_linked, is_set, link_at, links_to, no_link, stranded};
+ghost use Rattle.layout.specs.Shapes.{stray, link_in, links_in, sorts, unknown, is_side, outside};
 
 use crate::node::Shape;
 use crate::shapes::shape_of;
@@ -13,205 +13,158 @@ use packed::record::NodeRecord;
 // Columns count from 1 to this number.
 pub(crate) const COLUMNS: u8 = 32;
 
-// A fault that a node of a table may have.
-pub(crate) trait Fault {
-    ghost has: { Self → ℕ → Packed → Bool };
-
-    // Whether the node of this number has it.
-    fn meets(&self, number: usize, node: &NodeRecord) -> bool
-        ensures { result ≡ has self.now number node.now };
-}
-
-// Whether some node has a fault.
-pub(crate) fn any_node<F: Fault>(fault: &F, nodes: &[NodeRecord]) -> bool
-    ensures { result ≡ any_from (F.Fault.has fault.now) 1 nodes.now }
+// Whether some node has an unknown shape, or a bit that is not zero and should be.
+pub(crate) fn any_stray_bits(nodes: &[NodeRecord]) -> bool
+    ensures { result ≡ list_any stray nodes.now }
 {
-    for (i, node) in nodes.iter().enumerate() {
-        if fault.meets(i + 1, node) {
-            return true;
-        }
-    }
-    false
+    nodes.iter().any(has_stray_bits)
 }
 
-// An unknown shape, or a bit that is not zero and should be.
-#[derive(Clone, Copy)]
-pub(crate) struct StrayBits;
-
-impl Fault for StrayBits {
-    ghost has = { λ s i r. stray r };
-
-    fn meets(&self, _number: usize, node: &NodeRecord) -> bool {
-        let beside = match shape_of(node) {
-            None => return true,
-            Some(Shape::Field { .. } | Shape::Check { .. }) => node.child != 0,
-            Some(Shape::Mark { .. }) => node.kind != 0 || node.column != 0 || node.child != 0,
-            Some(_) => node.kind != 0 || node.parameter != 0 || node.column != 0,
-        };
-        beside || node.rest != 0
-    }
+// Whether a node has an unknown shape, or a bit that is not zero and should be.
+fn has_stray_bits(node: &NodeRecord) -> bool
+    ensures { result ≡ stray node.now }
+{
+    let beside = match shape_of(node) {
+        None => return true,
+        Some(Shape::Field { .. } | Shape::Check { .. }) => node.child != 0,
+        Some(Shape::Mark { .. }) => node.kind != 0 || node.column != 0 || node.child != 0,
+        Some(_) => node.kind != 0 || node.parameter != 0 || node.column != 0,
+    };
+    beside || node.rest != 0
 }
 
-// Links that lead nowhere or back, a child missing, or a next where none may be.
-#[derive(Clone, Copy)]
-pub(crate) struct IllLinked<'a> {
-    pub nodes: &'a [NodeRecord],
+// Whether some node's links lead nowhere or back, its child is missing, or it has a next where none may be.
+pub(crate) fn any_ill_linked(nodes: &[NodeRecord]) -> bool
+    ensures { result ≡ any_node (λ i r. ill_linked (links_in nodes.now) i (link_in r)) nodes.now }
+{
+    nodes
+        .iter()
+        .enumerate()
+        .any(|(i, node)| is_ill_linked(nodes, i + 1, node))
 }
 
 // Whether a link of a node, of so many, is set and leads nowhere or back.
-fn is_no_link(count: usize, number: usize, link: usize) -> bool
+fn is_astray(count: usize, number: usize, link: u16) -> bool
     ensures { result ≡ astray count number link }
 {
+    let link = usize::from(link);
     link != 0 && (link <= number || link > count)
 }
 
-impl IllLinked<'_> {
-    // Whether a link of a node leads nowhere or back.
-    fn leads_astray(&self, number: usize, link: u16) -> bool
-        ensures { result ≡ astray (length (links_in self.now.nodes.now)) number link }
-    {
-        is_no_link(self.nodes.len(), number, usize::from(link))
-    }
-
-    // Whether a node's child or next leads nowhere or back.
-    fn is_astray(&self, number: usize, node: &NodeRecord) -> bool
-        ensures { result ≡ (astray (length (links_in self.now.nodes.now)) number node.now.child || astray (length (links_in self.now.nodes.now)) number node.now.next) }
-    {
-        self.leads_astray(number, node.child) || self.leads_astray(number, node.next)
-    }
-
-    // The next of a node, and 0 for what is none.
-    fn next_of(&self, number: u16) -> u16
-        ensures { result ≡ (link_at (links_in self.now.nodes.now) number).next }
-    {
-        match self.nodes.get(usize::from(number).saturating_sub(1)) {
-            Some(node) => node.next,
-            None => 0,
-        }
-    }
-}
-
-// Whether a node is the root and has a next.
-fn is_followed_root(number: usize, next: u16) -> bool
-    ensures { result ≡ (number == 1 && is_set next) }
+// The next of a node, and 0 for what is none.
+fn next_of(nodes: &[NodeRecord], number: u16) -> u16
+    ensures { result ≡ (link_at (links_in nodes.now) number).next }
 {
-    number == 1 && next != 0
+    let at = usize::from(number).saturating_sub(1);
+    nodes.get(at).map_or(0, |node| node.next)
 }
 
-impl IllLinked<'_> {
-    // Whether what is below a node is not as it should be.
-    fn is_ill_filled(&self, node: &NodeRecord) -> bool
-        ensures { result ≡ ill_filled (links_in self.now.nodes.now) (link_in node.now).arity node.now.child }
-    {
-        match shape_of(node) {
-            Some(Shape::Sequence { child } | Shape::Choice { child }) => child == 0,
-            Some(Shape::Optional { child }) => child == 0 || self.next_of(child) != 0,
-            _ => false,
-        }
-    }
-}
-
-impl Fault for IllLinked<'_> {
-    ghost has = { λ s i r. ill_linked (links_in s.nodes.now) i (link_in r) };
-
-    fn meets(&self, number: usize, node: &NodeRecord) -> bool {
-        self.is_astray(number, node)
-            || is_followed_root(number, node.next)
-            || self.is_ill_filled(node)
-    }
-}
-
-// A node past the root that is not child or next of exactly one.
-#[derive(Clone, Copy)]
-pub(crate) struct NotOnce<'a> {
-    pub nodes: &'a [NodeRecord],
-}
-
-// How often a node has another as child or next.
-fn leads_to(node: &NodeRecord, number: usize) -> usize
-    ensures { result ≡ leads number (link_in node.now) }
+// Whether what is below a node is not as it should be.
+fn is_ill_filled(nodes: &[NodeRecord], node: &NodeRecord) -> bool
+    ensures { result ≡ ill_filled (links_in nodes.now) (link_in node.now).arity node.now.child }
 {
-    usize::from(usize::from(node.child) == number) + usize::from(usize::from(node.next) == number)
-}
-
-impl NotOnce<'_> {
-    // Whether a node is child or next of exactly one.
-    fn is_linked_once(&self, number: usize) -> bool
-        ensures { result ≡ (links_to number (links_in self.now.nodes.now) == 1) }
-    {
-        let mut count = 0;
-        for node in self.nodes {
-            count += leads_to(node, number);
-            if count > 1 {
-                return false;
-            }
-        }
-        count == 1
+    match shape_of(node) {
+        Some(Shape::Sequence { child } | Shape::Choice { child }) => child == 0,
+        Some(Shape::Optional { child }) => child == 0 || next_of(nodes, child) != 0,
+        _ => false,
     }
 }
 
-impl Fault for NotOnce<'_> {
-    ghost has = { λ s i r. stranded (links_in s.nodes.now) i (link_in r) };
+// Whether a node's links lead nowhere or back, its child is missing, or it has a next where none may be.
+fn is_ill_linked(nodes: &[NodeRecord], number: usize, node: &NodeRecord) -> bool
+    ensures { result ≡ ill_linked (links_in nodes.now) number (link_in node.now) }
+{
+    let count = nodes.len();
+    let astray = is_astray(count, number, node.child) || is_astray(count, number, node.next);
+    let followed_root = number == 1 && node.next != 0;
+    astray || followed_root || is_ill_filled(nodes, node)
+}
 
-    fn meets(&self, number: usize, _node: &NodeRecord) -> bool {
-        number > 1 && !self.is_linked_once(number)
+// Whether some node past the root is not child or next of exactly one.
+pub(crate) fn any_stranded(nodes: &[NodeRecord]) -> bool
+    ensures { result ≡ any_node (λ i r. stranded (links_in nodes.now) i (link_in r)) nodes.now }
+{
+    nodes
+        .iter()
+        .enumerate()
+        .any(|(i, _)| is_stranded(nodes, i + 1))
+}
+
+// Whether a node past the root is not child or next of exactly one.
+fn is_stranded(nodes: &[NodeRecord], number: usize) -> bool
+    ensures { result ≡ stranded (links_in nodes.now) number no_link }
+{
+    number > 1 && count_links(nodes, number) != 1
+}
+
+// How often a node is child or next of a node.
+#[tactic(auto, using(crate::proofs::Views::links_counted))]
+fn count_links(nodes: &[NodeRecord], number: usize) -> usize
+    ensures { result ≡ links_to number (links_in nodes.now) }
+{
+    let is_child = nodes
+        .iter()
+        .filter(|node| usize::from(node.child) == number)
+        .count();
+    let is_next = nodes
+        .iter()
+        .filter(|node| usize::from(node.next) == number)
+        .count();
+    is_child + is_next
+}
+
+// Whether some node is a field whose kind with its parameter the family does not know.
+pub(crate) fn any_unknown_kind<F: Family>(family: &F, nodes: &[NodeRecord]) -> bool
+    ensures { result ≡ list_any (unknown (sorts (F.Family.means family.now))) nodes.now }
+{
+    nodes.iter().any(|node| has_unknown_kind(family, node))
+}
+
+// Whether a node is a field whose kind with its parameter the family does not know.
+fn has_unknown_kind<F: Family>(family: &F, node: &NodeRecord) -> bool
+    ensures { result ≡ unknown (sorts (F.Family.means family.now)) node.now }
+{
+    match shape_of(node) {
+        Some(
+            Shape::Field {
+                kind,
+                parameter,
+                ..
+            },
+        ) => matches!(family.sort(kind, parameter), Sort::Unknown),
+        _ => false,
     }
 }
 
-// A field whose kind with its parameter the family does not know.
-#[derive(Drop)]
-pub(crate) struct UnknownKind<'a, F> {
-    pub family: &'a F,
+// Whether some node's column, relation or right side is out of range.
+pub(crate) fn any_outside(constants: usize, nodes: &[NodeRecord]) -> bool
+    ensures { result ≡ list_any (outside 32 constants) nodes.now }
+{
+    nodes.iter().any(|node| is_outside(constants, node))
 }
 
-impl<F: Family> Fault for UnknownKind<'_, F> {
-    ghost has = { λ s i r. unknown (λ k p. (F.Family.means s.family.now k p).sort) r };
-
-    fn meets(&self, _number: usize, node: &NodeRecord) -> bool {
-        match shape_of(node) {
-            Some(
-                Shape::Field {
-                    kind,
-                    parameter,
-                    ..
-                },
-            ) => matches!(self.family.sort(kind, parameter), Sort::Unknown),
-            _ => false,
-        }
+// Whether a parameter is a right side: a column, or one of the constants.
+fn is_side(constants: usize, parameter: u8) -> bool
+    ensures { result ≡ is_side 32 constants parameter }
+{
+    match parameter {
+        1..=COLUMNS => true,
+        64..=127 => usize::from(parameter - 64) < constants,
+        _ => false,
     }
 }
 
-// A column, a relation or a right side out of range.
-#[derive(Clone, Copy)]
-pub(crate) struct OutOfRange {
-    pub constants: usize,
-}
-
-impl OutOfRange {
-    // Whether a parameter is a right side: a column, or one of the constants.
-    fn is_side(&self, parameter: u8) -> bool
-        ensures { result ≡ is_side 32 self.now.constants parameter }
-    {
-        match parameter {
-            1..=COLUMNS => true,
-            64..=127 => usize::from(parameter - 64) < self.constants,
-            _ => false,
+// Whether a node's column, relation or right side is out of range.
+fn is_outside(constants: usize, node: &NodeRecord) -> bool
+    ensures { result ≡ outside 32 constants node.now }
+{
+    match shape_of(node) {
+        Some(Shape::Field { .. }) => node.column > COLUMNS,
+        Some(Shape::Check { left, .. }) => {
+            !matches!(node.kind, 1..=4)
+                || !matches!(left, 1..=COLUMNS)
+                || !is_side(constants, node.parameter)
         }
-    }
-}
-
-impl Fault for OutOfRange {
-    ghost has = { λ s i r. outside 32 s.constants r };
-
-    fn meets(&self, _number: usize, node: &NodeRecord) -> bool {
-        match shape_of(node) {
-            Some(Shape::Field { column, .. }) => column > COLUMNS,
-            Some(Shape::Check { left, .. }) => {
-                !matches!(node.kind, 1..=4)
-                    || !matches!(left, 1..=COLUMNS)
-                    || !self.is_side(node.parameter)
-            }
-            _ => false,
-        }
+        _ => false,
     }
 }

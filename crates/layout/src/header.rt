@@ -10,6 +10,9 @@ pub(crate) const MOST_CONSTANTS: usize = 64;
 // The two counts take a byte each.
 pub(crate) const HEADER: usize = 2;
 
+// A node or a constant takes eight bytes.
+pub(crate) const RECORD: usize = 8;
+
 #[derive(Clone, Copy)]
 pub(crate) struct Header {
     pub nodes: usize,
@@ -21,15 +24,15 @@ impl Header {
     pub(crate) fn of(bytes: &[u8]) -> Option<Header>
         ensures { MatchOption result (wrong_size 200 64 bytes.now ≡ true) (λ h. Sized bytes.now h.nodes h.constants) }
     {
-        if bytes.len() < HEADER {
+        let [nodes, constants, rest @ ..] = bytes else {
             return None;
-        }
-        let nodes = usize::from(bytes[0]);
-        let constants = usize::from(bytes[1]);
+        };
+        let nodes = usize::from(*nodes);
+        let constants = usize::from(*constants);
         if nodes < 1 || nodes > MOST_NODES || constants > MOST_CONSTANTS {
             return None;
         }
-        if bytes.len() != HEADER + 8 * nodes + 8 * constants {
+        if rest.len() != RECORD * nodes + RECORD * constants {
             return None;
         }
         Some(Header { nodes, constants })

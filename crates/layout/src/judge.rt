@@ -1,8 +1,9 @@
 // Which refusal a table of records meets first.
 ghost use Rattle.std.specs.Prelude.{◌≡◌, ◌<◌, ◌≤◌, length};
+ghost use Rattle.layout.specs.Shapes.{sorts};
 ghost use Rattle.layout.specs.Judged.{limits, judged};
 
-use crate::faults::{IllLinked, NotOnce, OutOfRange, StrayBits, UnknownKind, any_node};
+use crate::faults::{any_ill_linked, any_outside, any_stranded, any_stray_bits, any_unknown_kind};
 use crate::levels::is_too_deep;
 use crate::refusal::Refusal;
 use fields::family::Family;
@@ -16,21 +17,21 @@ pub(crate) fn first_refusal<F: Family>(
 ) -> Option<Refusal>
     requires some { 0 < length nodes.now }
     requires few { length nodes.now ≤ 200 }
-    ensures { result ≡ judged limits (λ k p. (F.Family.means family.now k p).sort) constants nodes.now }
+    ensures { result ≡ judged limits (sorts (F.Family.means family.now)) constants nodes.now }
 {
-    if any_node(&StrayBits, nodes) {
+    if any_stray_bits(nodes) {
         return Some(Refusal::Bits);
     }
-    if any_node(&IllLinked { nodes }, nodes) {
+    if any_ill_linked(nodes) {
         return Some(Refusal::Links);
     }
-    if any_node(&NotOnce { nodes }, nodes) {
+    if any_stranded(nodes) {
         return Some(Refusal::Stranded);
     }
-    if any_node(&UnknownKind { family }, nodes) {
+    if any_unknown_kind(family, nodes) {
         return Some(Refusal::Kind);
     }
-    if any_node(&OutOfRange { constants }, nodes) {
+    if any_outside(constants, nodes) {
         return Some(Refusal::Range);
     }
     if is_too_deep(nodes) {

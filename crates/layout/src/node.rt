@@ -3,7 +3,7 @@ ghost use Rattle.std.specs.Prelude.{◌≡◌};
 ghost use Rattle.layout.specs.Trees.{child_of};
 
 // How the left side of a check has to stand to the right side.
-#[derive(Clone, Copy)]
+#[derive(Clone, Copy, PartialEq, Eq, Debug)]
 pub enum Relation {
     Equal,
     Unequal,
@@ -12,7 +12,7 @@ pub enum Relation {
 }
 
 // The right side of a check.
-#[derive(Clone, Copy)]
+#[derive(Clone, Copy, PartialEq, Eq, Debug)]
 pub enum Side {
     // what stands in a column, 1 to 32
     Column(u8),
@@ -20,14 +20,14 @@ pub enum Side {
     Constant(u8),
 }
 
-// What a node is. Nodes count from 1, the root; a child is the first of the nodes below.
-#[derive(Clone, Copy)]
+// What a node is. Nodes count from 1, the root; a child is the first of the nodes below, and in a table it is always there.
+#[derive(Clone, Copy, PartialEq, Eq, Debug)]
 pub enum Shape {
-    // a field of the family's kind with its parameter; its number goes to the column, 1 to 32, or 0 for none
+    // a field of the family's kind with its parameter; its number goes to the column, 1 to 32, if there is one
     Field {
         kind: u8,
         parameter: u8,
-        column: u8,
+        column: Option<u8>,
     },
     // one byte that has to stand there
     Mark {
@@ -53,29 +53,36 @@ pub enum Shape {
     },
 }
 
-// A node, and the number of its following sibling, 0 for none.
-#[derive(Clone, Copy)]
+// A node, and the number of its following sibling.
+#[derive(Clone, Copy, PartialEq, Eq, Debug)]
 pub struct Node {
     pub shape: Shape,
-    pub next: u16,
+    pub next: Option<u16>,
 }
 
+// A mark of byte 00 without a next.
+pub(crate) const BLANK: Node = Node {
+    shape: Shape::Mark { byte: 0 },
+    next: None,
+};
+
 // A node's place in the tree: its number and its depth, which is 1 for the root.
-#[derive(Clone, Copy)]
+#[derive(Clone, Copy, PartialEq, Eq, Debug)]
 pub struct Entry {
     pub number: u16,
     pub depth: u16,
 }
 
 impl Shape {
-    // The number of the first node below, 0 for none.
-    pub fn child(self) -> u16
+    // The number of the first node below, of a shape that has parts.
+    pub fn child(self) -> Option<u16>
         ensures { result ≡ child_of self }
     {
         match self {
-            Shape::Sequence { child } | Shape::Choice { child } | Shape::Optional { child } =>
-                child,
-            Shape::Field { .. } | Shape::Mark { .. } | Shape::Check { .. } => 0,
+            Shape::Sequence { child } | Shape::Choice { child } | Shape::Optional { child } => {
+                Some(child)
+            }
+            Shape::Field { .. } | Shape::Mark { .. } | Shape::Check { .. } => None,
         }
     }
 }

@@ -1,4 +1,4 @@
-// What the numbers of a packed node say.
+// What the numbers of a packed node say. They are asked before they are judged, so that each has a meaning here, even one that is refused later: a public From or TryFrom would promise that meaning to others.
 ghost use Rattle.std.specs.Prelude.{◌≡◌};
 ghost use Rattle.layout.specs.Shapes.{relation_of, side_of, shape_of, node_of};
 
@@ -35,7 +35,7 @@ pub(crate) fn shape_of(node: &NodeRecord) -> Option<Shape>
         1 => Some(Shape::Field {
             kind: node.kind,
             parameter: node.parameter,
-            column: node.column,
+            column: (node.column != 0).then_some(node.column),
         }),
         2 => Some(Shape::Mark {
             byte: node.parameter,
@@ -59,6 +59,6 @@ pub(crate) fn node_of(node: &NodeRecord) -> Node
     let shape = shape_of(node).unwrap_or(Shape::Mark { byte: 0 });
     Node {
         shape,
-        next: node.next,
+        next: (node.next != 0).then_some(node.next),
     }
 }

@@ -1,6 +1,7 @@
 -- Packing and unpacking nodes are inverse.
-use Rattle.std.proofs.Common.{◌≡◌, ℕ, Bool, true, false, cond, List, length, Some, None, sym, refl, ap, ◌∙◌, mod-eq_of_lt, arith}
+use Rattle.std.proofs.Common.{◌≡◌, ℕ, true, List, length, Some, None, sym, refl, ap, ◌∙◌, mod-eq_of_lt}
 use Rattle.std.proofs.lemmas.Bool.{cond-true}
+use Rattle.std.proofs.lemmas.Option.{cond_some}
 use Rattle.fields.specs.Laws.{Bytes}
 use Rattle.packed.specs.declared.record.NodeRecord.{NodeRecord}
 use Rattle.packed.specs.Octets.{big, octets}
@@ -13,11 +14,6 @@ use Rattle.packed.proofs.FieldLaws.{joined_below, split_joined, fitting_split, j
 pub unpacked_fits : (bytes : List ℕ) → fitting widths (fields_of (unpacked bytes)) ≡ true
 unpacked_fits bytes = fitting_split widths (big bytes)
 
--- what is there only under a test
-there : (b : Bool) (xs ys : List ℕ) → cond b (Some xs) None ≡ Some ys → (b ≡ true) × (xs ≡ ys)
-there true xs ys h = (refl, cc)
-there false xs ys h = let z : ◌≡◌ {A = ℕ} 0 1 = cc in absurd (omega arith)
-
 repacked : (bytes : List ℕ) → Bytes bytes → length bytes ≡ 8 → packed (unpacked bytes) ≡ Some bytes
 repacked bytes h e =
     let n = big bytes in
@@ -28,7 +24,7 @@ repacked bytes h e =
 restored : (r : NodeRecord) (bytes : List ℕ) → packed r ≡ Some bytes → unpacked bytes ≡ r
 restored r bytes h =
     let fs = fields_of r in
-    let t = there (fitting widths fs) (octets (joined widths fs)) bytes h in
+    let t = cond_some (fitting widths fs) (octets (joined widths fs)) bytes h in
     let n : big bytes ≡ joined widths fs = ap big (sym t.1) ∙ big_octets (joined widths fs) (joined_below widths fs t.0) in
     ap (λ m. of_fields (split widths m)) n ∙ ap of_fields (split_joined widths fs refl t.0)
 

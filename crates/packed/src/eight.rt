@@ -3,6 +3,7 @@ ghost use Rattle.std.specs.Prelude.{◌≡◌};
 ghost use Rattle.packed.specs.Octets.{big, octets};
 
 // The number that eight bytes make.
+#[tactic(auto, using(crate::proofs::EightBytes::big_eight))]
 pub(crate) fn number(eight: &[u8; 8]) -> u64
     ensures { result ≡ big eight.now }
 {

@@ -18,8 +18,9 @@ pub fn load<T: Packed + Copy>(bytes: &[u8], out: &mut [T]) -> usize
 {
     let (pieces, _) = bytes.as_chunks::<8>();
     let count = pieces.len().min(out.len());
-    for i in 0..count {
-        out[i] = T::unpack(&pieces[i]);
+    // no zip over out.iter_mut(): a proof knows nothing of what is written through it
+    for (i, piece) in pieces[..count].iter().enumerate() {
+        out[i] = T::unpack(piece);
     }
     count
 }

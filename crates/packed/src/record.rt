@@ -7,7 +7,8 @@ use crate::eight::{bytes_of, number};
 use crate::loader::Packed;
 
 // Node numbers have 16 bits here; how many the packed form has is known only in this file and in the widths that it cites.
-#[derive(Clone, Copy)]
+// Shape and kind stay numbers: eight bytes may name no shape, and that is for the layout to judge.
+#[derive(Clone, Copy, PartialEq, Eq, Debug)]
 pub struct NodeRecord {
     pub shape: u8,
     pub kind: u8,
@@ -21,6 +22,7 @@ pub struct NodeRecord {
 
 impl NodeRecord {
     // The eight bytes of the node, or none where a field has more bits than the packed form.
+    #[tactic(auto, using(crate::proofs::NodeLaws::pack_laws))]
     pub fn pack(self) -> Option<[u8; 8]>
         ensures value { result ≡ packed self }
         ensures laws { PackLaws }

@@ -2,19 +2,6 @@
 use crate::loader::{Packed, load};
 use crate::record::NodeRecord;
 
-// The fields in the order of the packed form.
-fn fields(n: NodeRecord) -> [u32; 7] {
-    [
-        n.shape as u32,
-        n.kind as u32,
-        n.parameter as u32,
-        n.column as u32,
-        n.child as u32,
-        n.next as u32,
-        n.rest,
-    ]
-}
-
 #[test]
 fn packed_lists(rt: HostRuntime) {
     let bytes = [
@@ -22,9 +9,34 @@ fn packed_lists(rt: HostRuntime) {
     ];
     let mut nodes = [NodeRecord::unpack(&[0; 8]); 3];
     assert_eq!(rt; load(&bytes, &mut nodes), 2);
-    assert_eq!(rt; fields(nodes[0]), [1, 6, 0, 2, 0, 5, 0]);
-    assert_eq!(rt; fields(nodes[1]), [2, 0, 0x2C, 0, 0, 4, 0]);
-    assert_eq!(rt; fields(nodes[2]), [0; 7]);
+    let field = NodeRecord {
+        shape: 1,
+        kind: 6,
+        parameter: 0,
+        column: 2,
+        child: 0,
+        next: 5,
+        rest: 0,
+    };
+    let mark = NodeRecord {
+        shape: 2,
+        kind: 0,
+        parameter: 0x2C,
+        column: 0,
+        child: 0,
+        next: 4,
+        rest: 0,
+    };
+    let blank = NodeRecord {
+        shape: 0,
+        kind: 0,
+        parameter: 0,
+        column: 0,
+        child: 0,
+        next: 0,
+        rest: 0,
+    };
+    assert_eq!(rt; nodes, [field, mark, blank]);
     let mut constants = [0i64];
     assert_eq!(rt; load(&[0xFF; 8], &mut constants), 1);
     assert_eq!(rt; constants, [-1]);

@@ -1,5 +1,5 @@
 -- Each check of a report is decided by the lines above it, and a trial that is given up leaves nothing.
-use Rattle.std.proofs.Common.{◌≡◌, ℕ, ◌+◌, ◌-◌, ◌<◌, Bool, true, false, cond, ltb, ◌⊎◌, List, [], ◌∷◌, ◌++◌, length, ℤ, pos, sym, refl, ap, ◌∙◌, subst, inl, inr, append_assoc, append-nil, arith}
+use Rattle.std.proofs.Common.{◌≡◌, ℕ, ◌+◌, ◌-◌, ◌<◌, Bool, true, false, cond, ltb, ◌⊎◌, List, [], ◌∷◌, ◌++◌, length, ℤ, pos, None, sym, refl, ap, ◌∙◌, subst, inl, inr, append_assoc, append-nil, arith}
 use Rattle.fields.specs.Meanings.{Meaning}
 use Rattle.layout.specs.declared.node.Shape.{Shape}
 use Rattle.layout.specs.declared.node.Shape.TheVariants.{Field, Mark, Sequence, Choice, Optional, Check}
@@ -55,7 +55,7 @@ module _ (nodes : List Node) (constants : List ℤ) where
   inner_decided (Optional child) vs o h = tt
   inner_decided (Check relation left right) vs o h = absurd h
 
-  inner_bare : (s : Shape) → Inner s → column_of s ≡ 0
+  inner_bare : (s : Shape) → Inner s → column_of s ≡ None
   inner_bare (Field kind parameter column) h = absurd h
   inner_bare (Mark byte) h = refl
   inner_bare (Sequence child) h = refl

@@ -21,7 +21,7 @@ module _ (nodes : List Node) (row : List ℕ) where
   left_by pre (clean ls q r) = Some (leaves (drop q row) (values nodes (pre ++ ls)))
   left_by pre (given_up r) = None
 
-  leaf_leaves : (i c : ℕ) (pre : List Line) (p : ℕ) (r : Reading) → column_of (node_at nodes i).shape ≡ c →
+  leaf_leaves : (i : ℕ) (c : Option ℕ) (pre : List Line) (p : ℕ) (r : Reading) → column_of (node_at nodes i).shape ≡ c →
       left_by pre (leaf_tried i pre p r) ≡ leaf_meets c (drop p row) (values nodes pre) r
   leaf_leaves i c pre p (Ok x) e =
       ap₂ (λ bs vs. Some (leaves bs vs)) (sym (drop-drop x.0 p row))
@@ -75,7 +75,7 @@ module _ (means : ℕ → ℕ → Meaning) (nodes : List Node) (constants : List
     pub trial_meets : (q : Part) (pre : List Line) (p : ℕ) → Fits nodes constants q →
         left_by nodes row pre (trial means nodes row q pre p) ≡ part_meets means q (drop p row) (values nodes pre)
     trial_meets (field i kind parameter column) pre p h = leaf_leaves nodes row i column pre p ((means kind parameter).reads (drop p row)) (ap column_of h)
-    trial_meets (mark i byte) pre p h = leaf_leaves nodes row i 0 pre p (mark_reads byte (drop p row)) (ap column_of h)
+    trial_meets (mark i byte) pre p h = leaf_leaves nodes row i None pre p (mark_reads byte (drop p row)) (ap column_of h)
     trial_meets (check i relation left right) pre p h = check_leaves nodes row i pre p (checked relation left right (values nodes pre)) (ap column_of h.1)
     trial_meets (sequence i parts) pre p h =
         under_leaves nodes row i pre p (pos 0) _ (ap column_of h.0.1) ∙ under_begun i pre p (ap column_of h.0.1) (all_meet means parts (drop p row)) (trials_meet parts (pre ++ begun i p ∷ []) p h.1)

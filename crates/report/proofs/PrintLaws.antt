@@ -12,7 +12,7 @@ use Rattle.layout.specs.declared.node.Relation.{Relation}
 use Rattle.layout.specs.declared.node.Shape.{Shape}
 use Rattle.layout.specs.declared.node.Shape.TheVariants.{Field, Mark, Sequence, Choice, Optional, Check}
 use Rattle.layout.specs.declared.node.Node.{Node}
-use Rattle.layout.specs.Trees.{node_at, operand_of, tree_of}
+use Rattle.layout.specs.Trees.{blank, node_at, operand_of, tree_of}
 use Rattle.report.specs.declared.outcome.Outcome.TheVariants.{Good, SyntaxFault, CheckFault, Absent, FaultBelow, Scrap}
 use Rattle.report.specs.declared.line.Line.{Line}
 use Rattle.report.specs.Outcomes.{role_of}
@@ -119,7 +119,7 @@ module _ (means : ℕ → ℕ → Meaning) (nodes : List Node) (row : List ℕ) 
       (subst (λ x. share x 1 ≤ length (drop p row)) (sym s) zero-le) (omega (arith, stands_below row b p e))
 
   -- a field that was read, by the sort of its kind
-  field_covers : (i kind parameter column p n : ℕ) (z : ℤ) → Has nodes i (Field kind parameter column) → p ≤ length row → n ≤ length (drop p row) →
+  field_covers : (i kind parameter : ℕ) (column : Option ℕ) (p n : ℕ) (z : ℤ) → Has nodes i (Field kind parameter column) → p ≤ length row → n ≤ length (drop p row) →
       ((means kind parameter).sort ≡ Numeric → (means kind parameter).spells z ≡ take n (drop p row)) →
       ((means kind parameter).sort ≡ Unknown → ⊥) → Covers (line i Good p n z ∷ []) p (p + n)
   field_covers i kind parameter column p n z h w fits spelled known = go (means kind parameter).sort refl
@@ -181,7 +181,7 @@ module _ (means : ℕ → ℕ → Meaning) (nodes : List Node) (constants : List
   bytes_from_lem p i = subst (λ b. b < 256) (sym (get_or-drop p row i 0)) (bytes (p + i))
 
   known_node : (i : ℕ) → KnownShape means (node_at nodes i).shape
-  known_node i = known_at means record { shape = Mark 0; next = 0 } tt nodes known (i - 1)
+  known_node i = known_at means blank tt nodes known (i - 1)
 
   steps : Steps means nodes constants row (λ pre p ls q. p ≤ length row → Covers means nodes row ls p q)
   steps = record {

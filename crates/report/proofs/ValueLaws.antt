@@ -15,9 +15,9 @@ module _ (nodes : List Node) where
 
   -- node i has no column
   abbrev pub Bare : ℕ → Type 0
-  Bare i = column_of (node_at nodes i).shape ≡ 0
+  Bare i = column_of (node_at nodes i).shape ≡ None
 
-  none_entered : (o : Outcome) (z : ℤ) → entered o 0 z ≡ []
+  none_entered : (o : Outcome) (z : ℤ) → entered o None z ≡ []
   none_entered Good z = refl
   none_entered SyntaxFault z = refl
   none_entered CheckFault z = refl
@@ -36,7 +36,7 @@ module _ (nodes : List Node) where
       ∙ ap (λ vs. values nodes pre ++ (vs ++ [])) (bare_value l h)
       ∙ append-nil (values nodes pre)
 
-  not_entered : (o : Outcome) (c : ℕ) (z : ℤ) → (o ≡ Good → ⊥) → entered o c z ≡ []
+  not_entered : (o : Outcome) (c : Option ℕ) (z : ℤ) → (o ≡ Good → ⊥) → entered o c z ≡ []
   not_entered Good c z h = absurd (h refl)
   not_entered SyntaxFault c z h = refl
   not_entered CheckFault c z h = refl

@@ -7,7 +7,7 @@ use Rattle.layout.specs.Shapes as layouts
 
 -- every kind in the table is known to a family that means this
 abbrev pub Known : (ℕ → ℕ → Meaning) → List Node → Type 0
-Known means nodes = layouts.Known (λ kind parameter. (means kind parameter).sort) nodes
+Known means nodes = layouts.Known (layouts.sorts means) nodes
 
 abbrev pub KnownShape : (ℕ → ℕ → Meaning) → Shape → Type 0
-KnownShape means s = layouts.KnownShape (λ kind parameter. (means kind parameter).sort) s
+KnownShape means s = layouts.KnownShape (layouts.sorts means) s

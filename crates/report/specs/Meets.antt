@@ -18,7 +18,7 @@ abbrev pub leaves : List ℕ → List Value → Left
 leaves bs vs = record { bytes = bs; values = vs }
 
 -- a field or a mark takes its bytes, and a number goes into its column
-abbrev pub leaf_meets : ℕ → List ℕ → List Value → Reading → Option Left
+abbrev pub leaf_meets : Option ℕ → List ℕ → List Value → Reading → Option Left
 leaf_meets column bs vs (Ok x) = Some (leaves (drop x.0 bs) (vs ++ entry column x.1))
 leaf_meets column bs vs (Err c) = None
 
@@ -39,7 +39,7 @@ module _ (means : ℕ → ℕ → Meaning) where
   abbrev mutual
     pub part_meets : Part → List ℕ → List Value → Option Left
     part_meets (field i kind parameter column) bs vs = leaf_meets column bs vs ((means kind parameter).reads bs)
-    part_meets (mark i byte) bs vs = leaf_meets 0 bs vs (mark_reads byte bs)
+    part_meets (mark i byte) bs vs = leaf_meets None bs vs (mark_reads byte bs)
     part_meets (check i relation left right) bs vs = check_meets bs vs (checked relation left right vs)
     part_meets (sequence i parts) bs vs = all_meet parts bs vs
     part_meets (choice i parts) bs vs = some_meets parts bs vs

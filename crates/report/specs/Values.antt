@@ -1,5 +1,5 @@
 -- The values in a row's columns, from the lines that stand.
-use Rattle.std.specs.Prelude.{ℕ, zero, suc, cond, List, [], ◌∷◌, ◌++◌, ℤ, Some, None, Option, ◌==◌}
+use Rattle.std.specs.Prelude.{ℕ, cond, List, [], ◌∷◌, ◌++◌, ℤ, Some, None, Option, ◌==◌}
 use Rattle.layout.specs.declared.node.Shape.{Shape}
 use Rattle.layout.specs.declared.node.Shape.TheVariants.{Field, Mark, Sequence, Choice, Optional, Check}
 use Rattle.layout.specs.declared.node.Node.{Node}
@@ -12,22 +12,22 @@ use Rattle.report.specs.declared.line.Line.{Line}
 abbrev pub Value : Type 0
 Value = ℕ × ℤ
 
--- the column of a field, 0 for none; no other shape has one
-abbrev pub column_of : Shape → ℕ
+-- the column of a field that has one; no other shape has one
+abbrev pub column_of : Shape → Option ℕ
 column_of (Field kind parameter column) = column
-column_of (Mark byte) = 0
-column_of (Sequence child) = 0
-column_of (Choice child) = 0
-column_of (Optional child) = 0
-column_of (Check relation left right) = 0
+column_of (Mark byte) = None
+column_of (Sequence child) = None
+column_of (Choice child) = None
+column_of (Optional child) = None
+column_of (Check relation left right) = None
 
--- a number that was read into a column; none into column 0
-abbrev pub entry : ℕ → ℤ → List Value
-entry zero z = []
-entry (suc c) z = (suc c, z) ∷ []
+-- a number that was read into a column, if there is one
+abbrev pub entry : Option ℕ → ℤ → List Value
+entry None z = []
+entry (Some c) z = (c, z) ∷ []
 
 -- only good lines have a value
-abbrev pub entered : Outcome → ℕ → ℤ → List Value
+abbrev pub entered : Outcome → Option ℕ → ℤ → List Value
 entered Good c z = entry c z
 entered SyntaxFault c z = []
 entered CheckFault c z = []

@@ -4,6 +4,7 @@ use Rattle.fields.specs.Meanings.{Meaning}
 use Rattle.fields.specs.Kinds.{ascii_kind, ascii_means}
 use Rattle.fields.specs.Examples.{ReadExamples}
 use Rattle.rows.specs.Examples.{WorkedCuts}
+use Rattle.layout.specs.Shapes.{sorts}
 use Rattle.layout.specs.Files.{nodes_in, constants_in, refusal}
 use Rattle.report.specs.declared.line.Line.{Line}
 use Rattle.report.specs.Outcomes.{outcome_number}
@@ -42,7 +43,7 @@ pub record WorkedExamples (file faulty clean : List ℕ) : Type 0 where
   pub cuts : WorkedCuts
   pub fields : ReadExamples
   pub invoice : file ≡ invoice_layout
-  pub accepted : refusal (λ kind parameter. (ascii_family kind parameter).sort) file ≡ None
+  pub accepted : refusal (sorts ascii_family) file ≡ None
   pub no_such_day : faulty ≡ codes "17,2023-02-29,-12.50"
   pub its_lines : map told (lines_under file faulty)
       ≡ (1, 5, 0, 20, pos 0)

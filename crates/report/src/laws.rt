@@ -9,6 +9,7 @@ pub fn prints_back<F: Family>(family: &F)
 {}
 
 // A report counts no fault exactly when its row meets the layout.
+#[tactic(auto, using(crate::proofs::CleanRows::clean_row))]
 pub fn clean_when_met<F: Family>(family: &F)
     ensures { CleanWhenMet (F.means family.now) }
 {}
@@ -19,6 +20,7 @@ pub fn told_apart<F: Family>(family: &F)
 {}
 
 // A value of a given-up branch never reaches a check.
+#[tactic(auto, using(crate::proofs::CheckLaws::unheard))]
 pub fn given_up_unheard<F: Family>(family: &F)
     ensures { GivenUpUnheard (F.means family.now) }
 {}

@@ -3,22 +3,22 @@ ghost use Rattle.std.specs.Prelude.{◌≡◌};
 ghost use Rattle.report.specs.Outcomes.{outcome_number, role_of, is_fault};
 
 // What a line of a report says of its node.
-#[derive(Clone, Copy)]
+#[derive(Clone, Copy, PartialEq, Eq, Debug)]
 pub enum Outcome {
     // It was read.
-    Good,
+    Good = 0,
     // It could not be read.
-    SyntaxFault,
+    SyntaxFault = 1,
     // A relation between values fails.
-    CheckFault,
+    CheckFault = 2,
     // An option's part is not there.
-    Absent,
+    Absent = 3,
     // It was passed over, or a value for its check is missing.
-    Skipped,
+    Skipped = 4,
     // A sequence with a fault in it.
-    FaultBelow,
+    FaultBelow = 5,
     // Bytes that no part took.
-    Scrap,
+    Scrap = 6,
 }
 
 impl Outcome {
@@ -26,15 +26,7 @@ impl Outcome {
     pub fn number(self) -> u8
         ensures { result ≡ outcome_number self }
     {
-        match self {
-            Outcome::Good => 0,
-            Outcome::SyntaxFault => 1,
-            Outcome::CheckFault => 2,
-            Outcome::Absent => 3,
-            Outcome::Skipped => 4,
-            Outcome::FaultBelow => 5,
-            Outcome::Scrap => 6,
-        }
+        self as u8
     }
 
     // Whether a line with this outcome counts as a fault.

@@ -17,6 +17,6 @@ fn outcomes_have_their_numbers(rt: HostRuntime) {
 fn the_worked_rows_are_those_of_two_years(rt: HostRuntime) {
     let examples = worked_examples();
     assert_eq!(rt; examples.layout.len(), 50);
-    assert!(rt; examples.faulty == b"17,2023-02-29,-12.50".as_slice());
-    assert!(rt; examples.clean == b"17,2024-02-29,-12.50".as_slice());
+    assert_eq!(rt; examples.faulty, b"17,2023-02-29,-12.50".as_slice());
+    assert_eq!(rt; examples.clean, b"17,2024-02-29,-12.50".as_slice());
 }

@@ -13,7 +13,7 @@ const INVOICE: &[u8] = &[
 ];
 
 // A layout file, a row with no such day, and the same row in a leap year.
-#[derive(Clone, Copy)]
+#[derive(Clone, Copy, PartialEq, Eq, Debug)]
 pub struct Examples {
     pub layout: &'static [u8],
     pub faulty: &'static [u8],

@@ -2,16 +2,15 @@
 ghost use Rattle.std.specs.Prelude.{◌≡◌, ◌*◌, ◌≤◌, [], ◌∷◌, map, length, IfOk, vec_capacity, MatchResult};
 ghost use Rattle.packed.specs.Pieces.{records as records_of};
 ghost use Rattle.packed.specs.Constants.{constant_of};
-ghost use Rattle.layout.specs.declared.node.Shape.TheVariants.{Mark};
-ghost use Rattle.layout.specs.Shapes.{node_of};
-ghost use Rattle.layout.specs.Trees.{TreeOf};
+ghost use Rattle.layout.specs.Shapes.{node_of, sorts};
+ghost use Rattle.layout.specs.Trees.{blank, TreeOf};
 ghost use Rattle.layout.specs.Loading.{Loaded, DepthTold};
 ghost use Rattle.layout.specs.Files.{Sized, nodes_in, constants_in, refusal, answer};
 
-use crate::header::{HEADER, Header, MOST_CONSTANTS};
+use crate::header::{HEADER, Header, MOST_CONSTANTS, RECORD};
 use crate::judge::first_refusal;
 use crate::levels::MOST_NODES;
-use crate::node::{Node, Shape};
+use crate::node::{BLANK, Node};
 use crate::refusal::Refusal;
 use crate::shapes::node_of;
 use crate::table::Layout;
@@ -20,7 +19,8 @@ use packed::loader::load;
 use packed::record::NodeRecord;
 use std::alloc::{AllocError, Global};
 
-const BLANK: NodeRecord = NodeRecord {
+// What records hold until they are loaded.
+const UNREAD: NodeRecord = NodeRecord {
     shape: 0,
     kind: 0,
     parameter: 0,
@@ -58,14 +58,11 @@ fn put_constants(out: &mut Vec<i64>, bytes: &[u8], numbers: &mut [i64])
 impl Layout {
     // A layout of one mark, byte 00, with memory for any layout.
     pub fn new(heap: Global) -> Result<Layout, AllocError>
-        ensures { IfOk result (λ l. (l.nodes.items ≡ record { shape = Mark 0; next = 0 } ∷ []) × (l.constants.items ≡ [])) }
+        ensures { IfOk result (λ l. (l.nodes.items ≡ blank ∷ []) × (l.constants.items ≡ [])) }
     {
         let mut nodes = Vec::with_capacity(heap, MOST_NODES)?;
         let constants = Vec::with_capacity(heap, MOST_CONSTANTS)?;
-        nodes.push_reserved(Node {
-            shape: Shape::Mark { byte: 0 },
-            next: 0,
-        });
+        nodes.push_reserved(BLANK);
         Ok(Layout { nodes, constants })
     }
 
@@ -79,10 +76,10 @@ impl Layout {
     ) -> Result<(), Refusal>
         requires sized { Sized bytes.now header.nodes header.constants }
         requires room { length records.old ≡ header.nodes }
-        ensures value { result ≡ answer (refusal (λ k p. (F.Family.means family.now k p).sort) bytes.now) }
+        ensures value { result ≡ answer (refusal (sorts (F.Family.means family.now)) bytes.now) }
         ensures after { MatchResult result (λ _. (self.new.nodes.items ≡ nodes_in bytes.now) × (self.new.constants.items ≡ constants_in bytes.now)) (λ _. self.new ≡ self.old) }
     {
-        let behind = HEADER + 8 * header.nodes;
+        let behind = HEADER + RECORD * header.nodes;
         let constants = header.constants;
         load(&bytes[HEADER..behind], records);
         if let Some(refusal) = first_refusal(family, records, constants) {
@@ -100,8 +97,8 @@ impl Layout {
 
     // Loads a file in the place of what was loaded before, or refuses it with the first refusal that applies and changes nothing. It takes no memory.
     pub fn load<F: Family>(&mut self, family: &F, bytes: &[u8]) -> Result<(), Refusal>
-        ensures value { result ≡ answer (refusal (λ k p. (F.Family.means family.now k p).sort) bytes.now) }
-        ensures after { MatchResult result (λ _. Loaded (λ k p. (F.Family.means family.now k p).sort) bytes.now self.new.nodes.items self.new.constants.items) (λ _. self.new ≡ self.old) }
+        ensures value { result ≡ answer (refusal (sorts (F.Family.means family.now)) bytes.now) }
+        ensures after { MatchResult result (λ _. Loaded (sorts (F.Family.means family.now)) bytes.now self.new.nodes.items self.new.constants.items) (λ _. self.new ≡ self.old) }
         ensures tree { TreeOf 16 self.new.nodes.items self.new.constants.items }
         ensures depth { DepthTold bytes.now result }
     {
@@ -109,7 +106,7 @@ impl Layout {
             return Err(Refusal::Size);
         };
         let count = header.nodes;
-        let mut records = [BLANK; MOST_NODES];
+        let mut records = [UNREAD; MOST_NODES];
         self.load_records(family, bytes, header, &mut records[0..count])
     }
 }

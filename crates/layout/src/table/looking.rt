@@ -1,8 +1,9 @@
 // Looking a table up: its nodes, its constants, and its tree.
-ghost use Rattle.std.specs.Prelude.{◌≡◌, ◌<◌, ◌≤◌, ◌++◌, length, IfOk, OnOk};
-ghost use Rattle.layout.specs.Trees.{node_at, parts_at, tree_of, outline as outline_from, outline_of};
+ghost use Rattle.std.specs.Prelude.{◌≡◌, ◌<◌, ◌≤◌, false, ◌++◌, length, IfOk, OnOk};
+ghost use Rattle.layout.specs.Shapes.{names_none};
+ghost use Rattle.layout.specs.Trees.{or_zero, node_at, parts_at, tree_of, outline as outline_from, outline_of};
 
-use crate::node::{Entry, Node, Shape};
+use crate::node::{BLANK, Entry, Node};
 use crate::table::Layout;
 use std::alloc::{AllocError, Global};
 
@@ -26,24 +27,24 @@ impl Layout {
         ensures { result ≡ node_at self.now.nodes.items number }
     {
         let at = usize::from(number).saturating_sub(1);
-        match self.nodes.get(at) {
-            Some(node) => *node,
-            None => Node {
-                shape: Shape::Mark { byte: 0 },
-                next: 0,
-            },
-        }
+        self.nodes.get(at).copied().unwrap_or(BLANK)
     }
 
     // Adds a node, its later siblings and what is below them, in the order of reading.
-    fn add_from(&self, number: u16, depth: u16, out: &mut Vec<Entry>) -> Result<(), AllocError>
-        requires inside { number ≤ length self.now.nodes.items }
-        requires low { 0 < number → depth ≤ number }
-        ensures { OnOk result (out.new.items ≡ out.old.items ++ outline_of depth (parts_at self.now.nodes.items self.now.constants.items number)) }
+    fn add_from(
+        &self,
+        number: Option<u16>,
+        depth: u16,
+        out: &mut Vec<Entry>,
+    ) -> Result<(), AllocError>
+        requires inside { or_zero number ≤ length self.now.nodes.items }
+        requires low { 0 < or_zero number → depth ≤ or_zero number }
+        requires named { names_none number ≡ false }
+        ensures { OnOk result (out.new.items ≡ out.old.items ++ outline_of depth (parts_at self.now.nodes.items self.now.constants.items (or_zero number))) }
     {
-        if number == 0 {
+        let Some(number) = number else {
             return Ok(());
-        }
+        };
         out.push(Entry { number, depth })?;
         let node = self.node(number);
         self.add_from(node.shape.child(), depth + 1, out)?;
@@ -55,7 +56,7 @@ impl Layout {
         ensures { IfOk result (λ v. v.items ≡ outline_from 1 (tree_of self.now.nodes.items self.now.constants.items)) }
     {
         let mut out = Vec::new(heap);
-        self.add_from(1, 1, &mut out)?;
+        self.add_from(Some(1), 1, &mut out)?;
         Ok(out)
     }
 }

@@ -5,4 +5,4 @@ use Rattle.layout.proofs.DepthLoop.{Noted}
 use Rattle.layout.proofs.levels.is_too_deep.Given as goal
 
 abbrev pub invariant-loop-i : goal.invariant-loop-i
-invariant-loop-i l = (length l.depths ≡ 200) × Noted 16 (links_in l.nodes) l.depths l.i
+invariant-loop-i l = (length l.depths ≡ 201) × Noted 16 (links_in l.nodes) l.depths l.i
