@@ -1,5 +1,5 @@
 -- What `neskvaru rows` writes: a line for each row in order, one for the tail, a summary, and a notice where the closing row is unended.
-use Rattle.std.specs.Prelude.{◌≡◌, ℕ, ◌+◌, Bool, cond, List, [], ◌∷◌, ◌++◌, length, Some, None, codes, decimal, Option, ◌==◌}
+use Rattle.std.specs.Prelude.{ℕ, ◌+◌, Bool, false, cond, List, [], ◌∷◌, ◌++◌, length, Some, None, codes, decimal, Option, ◌==◌}
 use Rattle.rows.specs.Cuts.{RowAt, TailAt, Cut}
 use Rattle.rows.specs.Frames.{measured}
 use Rattle.rows.specs.Words.{unended, last_unended}
@@ -8,6 +8,8 @@ use Rattle.rows.specs.declared.piece.Mark.TheVariants.{Ended, Unended}
 use Rattle.cli.specs.declared.listing.Listing.{Listing}
 use Rattle.cli.specs.declared.listing.Stage.{Stage}
 use Rattle.cli.specs.declared.listing.Stage.TheVariants.{Rows, Summary, Notice, Done}
+use Rattle.cli.specs.declared.texts.Line.{Line}
+use Rattle.cli.specs.declared.texts.Line.TheVariants.{Row as row_of, Tail as tail_of, Summary as summary_of, Notice as notice_of}
 
 abbrev pub word : Mark → List ℕ
 word Ended = codes "ended"
@@ -30,14 +32,18 @@ ending n = cond (n == 1) [] (codes "s")
 abbrev pub plural : ℕ → List ℕ → List ℕ
 plural n noun = decimal n ++ (codes " " ++ (noun ++ ending n))
 
-abbrev pub summed : List ℕ → List ℕ → List ℕ
-summed rows bytes = rows ++ (codes "; the file has " ++ bytes)
-
 abbrev pub summary_line : ℕ → ℕ → List ℕ
-summary_line count size = summed (plural count (codes "row")) (plural size (codes "byte"))
+summary_line count size = plural count (codes "row") ++ (codes "; the file has " ++ plural size (codes "byte"))
 
 abbrev pub notice_line : ℕ → List ℕ
 notice_line number = codes "notice: the closing row, row " ++ (decimal number ++ codes ", has no newline at its end; it is a row like the others and is counted")
+
+-- how a line of the program is written
+abbrev pub line_text : Line → List ℕ
+line_text (row_of number start len mark) = row_line number start len mark
+line_text (tail_of start len) = tail_line start len
+line_text (summary_of count size) = summary_line count size
+line_text (notice_of number) = notice_line number
 
 -- the lines of rows, where `up` gives the next number
 abbrev pub row_lines : (ℕ → ℕ) → ℕ → List RowAt → List (List ℕ)
@@ -64,23 +70,23 @@ listing c size = row_lines (λ n. n + 1) 0 c.rows ++ closing_lines c.tail (last_
 abbrev pub counter_up : ℕ → ℕ
 counter_up n = measured (n + 1)
 
--- whether the closing row is unended, if the last row so far was so
-abbrev pub last_after : Bool → List RowAt → Bool
+-- the mark of the last row, behind rows whose last had the mark `last`
+abbrev pub last_after : Option Mark → List RowAt → Option Mark
 last_after last [] = last
-last_after last (r ∷ rs) = last_after (unended r.mark) rs
+last_after last (r ∷ rs) = last_after (Some r.mark) rs
 
--- the lines still to come: after n rows, the last of them unended or not
-abbrev pub lines_left : Stage → ℕ → Bool → Cut → ℕ → List (List ℕ)
-lines_left Rows n last c size = row_lines counter_up n c.rows ++ closing_lines c.tail (last_after last c.rows) (count_up counter_up n c.rows) size
-lines_left Summary n last c size = summary_line n size ∷ notice_if last n
-lines_left Notice n last c size = notice_line n ∷ []
-lines_left Done n last c size = []
+-- a last row is unended, if there is one
+abbrev pub closes_unended : Option Mark → Bool
+closes_unended None = false
+closes_unended (Some m) = unended m
+
+-- the lines still to come: after so many rows, the last of them with the mark `last`
+abbrev pub lines_left : Stage → Cut → ℕ → List (List ℕ)
+lines_left (Rows n last) c size = row_lines counter_up n c.rows ++ closing_lines c.tail (closes_unended (last_after last c.rows)) (count_up counter_up n c.rows) size
+lines_left (Summary n last) c size = summary_line n size ∷ notice_if (closes_unended last) n
+lines_left (Notice n) c size = notice_line n ∷ []
+lines_left Done c size = []
 
 -- the lines still to come of a listing, by what its rule has ahead
 abbrev pub left : {R : Type 0} → (R → List ℕ → Cut) → Listing R → List (List ℕ)
-left ahead l = lines_left l.stage l.number l.last (ahead l.rule l.file.now) (length l.file.now)
-
--- what a call that tells the next line leaves: the first line is told and gone, or none is left
-abbrev pub Tells : {S : Type 0} → (S → List ℕ) → Option S → List (List ℕ) → List (List ℕ) → Type 0
-Tells bytes None before after = (before ≡ []) × (after ≡ [])
-Tells bytes (Some s) before after = before ≡ bytes s ∷ after
+left ahead l = lines_left l.stage (ahead l.rule l.file.now) (length l.file.now)

@@ -12,12 +12,6 @@ reason FileTooLong = codes "a file has more than 16777216 bytes"
 reason OutOfRange = codes "a width is not 1 to 4096, or a sample is not 0 to 16777216"
 reason BufferTooShort = codes "a buffer is too short"
 
-abbrev pub refused_line : ℕ → List ℕ → List ℕ → List ℕ
-refused_line number why what = codes "neskvaru: refused, number " ++ (decimal number ++ (codes ": " ++ (why ++ (codes ": '" ++ (what ++ codes "'")))))
-
-abbrev pub refusal_line : Refusal → List ℕ → List ℕ
-refusal_line e what = refused_line (number_of e) (reason e) what
-
 abbrev pub problem_line : Problem → List ℕ
 problem_line (BadWords r) = codes "neskvaru: cannot read the words of the command: " ++ r.now
 problem_line (NoCommand w) = codes "neskvaru: there is no command '" ++ (w.now ++ codes "'; neskvaru alone tells how it is used")
@@ -26,5 +20,5 @@ problem_line (NoRule w) = codes "neskvaru: '" ++ (w.now ++ codes "' is no row ru
 problem_line (NoFamily w) = codes "neskvaru: '" ++ (w.now ++ codes "' is no family; write ascii, binary or pair:FAMILY:FAMILY")
 problem_line (NoNumber w) = codes "neskvaru: '" ++ (w.now ++ codes "' is no kind from 0 to 63, or no parameter from 0 to 255")
 problem_line (UnknownKind f) = codes "neskvaru: the family '" ++ (f.now ++ codes "' does not know this kind with this parameter")
-problem_line (Refused e w) = refusal_line e w.now
+problem_line (Refused e w) = codes "neskvaru: refused, number " ++ (decimal (number_of e) ++ (codes ": " ++ (reason e ++ (codes ": '" ++ (w.now ++ codes "'")))))
 problem_line (Unreadable w r) = codes "neskvaru: cannot read the file '" ++ (w.now ++ (codes "': " ++ r.now))

@@ -4,6 +4,8 @@ use Rattle.std.specs.Fmt.{signed_decimal}
 use Rattle.fields.specs.Causes.{number_of}
 use Rattle.fields.specs.declared.cause.Cause.{Cause}
 use Rattle.fields.specs.declared.cause.Cause.TheVariants.{Short, Form, Range, SecondSpelling}
+use Rattle.cli.specs.declared.readings.Reading.{Reading}
+use Rattle.cli.specs.declared.readings.Reading.TheVariants.{Number, Kept, Fault}
 
 abbrev pub number_line : List ℕ → ℤ → ℕ → ℕ → List ℕ
 number_line name number len size = name ++ (codes " " ++ (signed_decimal number ++ (codes ", " ++ (decimal len ++ (codes " of " ++ (decimal size ++ codes " bytes read"))))))
@@ -17,8 +19,11 @@ cause_word Form = codes "the bytes have another form"
 cause_word Range = codes "too large, or no such date"
 cause_word SecondSpelling = codes "a second spelling of the number"
 
-abbrev pub told_cause : List ℕ → ℕ → List ℕ → List ℕ
-told_cause name number why = name ++ (codes ": cause " ++ (decimal number ++ (codes ", " ++ why)))
-
 abbrev pub cause_line : List ℕ → Cause → List ℕ
-cause_line name cause = told_cause name (number_of cause) (cause_word cause)
+cause_line name cause = name ++ (codes ": cause " ++ (decimal (number_of cause) ++ (codes ", " ++ cause_word cause)))
+
+-- how a reading is told
+abbrev pub reading_line : Reading → List ℕ
+reading_line (Number name number len size) = number_line name.now number len size
+reading_line (Kept name len size) = kept_line name.now len size
+reading_line (Fault name cause) = cause_line name.now cause

@@ -8,6 +8,7 @@ use fields::ascii::Ascii;
 use fields::binary::Binary;
 use fields::either::Either;
 use fields::pair::Pair;
+use std::str::Split;
 
 // A family that is no pair.
 pub type PlainFamily = Either<Ascii, Binary>;
@@ -46,59 +47,40 @@ fn plain_family(word: &str) -> Option<PlainFamily> {
     }
 }
 
-// One family read from the words: the first plain family in it, and the words behind it, if any.
-#[derive(Clone, Copy)]
-struct Taken<'a> {
-    first: PlainFamily,
-    rest: Option<&'a str>,
-}
-
-// Reads one family at the beginning of some words; a pair wants one family more.
-fn one_family(words: &str) -> Option<Taken<'_>> {
-    let mut rest = words;
+// Takes the words of one family, and gives the first plain family in it.
+fn one_family(words: &mut Split<'_, char>) -> Option<PlainFamily> {
+    let mut first = None;
+    // a pair wants one family more
     let mut wanted: usize = 1;
-    let mut found = None;
-    for _ in 0..=words.len() {
-        let (word, behind) = match rest.split_once(':') {
-            Some((word, behind)) => (word, Some(behind)),
-            None => (rest, None),
-        };
+    for word in words {
         if word == "pair" {
             wanted = wanted.saturating_add(1);
-        } else {
-            let first = found.unwrap_or(plain_family(word)?);
-            found = Some(first);
-            wanted = wanted.saturating_sub(1);
-            if wanted == 0 {
-                return Some(Taken {
-                    first,
-                    rest: behind,
-                });
-            }
+            continue;
         }
-        rest = behind?;
+        let family = plain_family(word)?;
+        first = first.or(Some(family));
+        wanted = wanted.saturating_sub(1);
+        if wanted == 0 {
+            return first;
+        }
     }
     None
 }
 
 // What the words `ascii`, `binary` or `pair:FAMILY:FAMILY` say, or none.
 pub fn family_of(words: &str) -> Option<FamilyWords> {
-    let Some(sides) = words.strip_prefix("pair:") else {
-        let first = plain_family(words)?;
-        return Some(FamilyWords {
-            first,
+    let mut words = words.split(':');
+    let family = match words.next()? {
+        "pair" => FamilyWords {
+            first: one_family(&mut words)?,
+            second: Some(one_family(&mut words)?),
+        },
+        word => FamilyWords {
+            first: plain_family(word)?,
             second: None,
-        });
+        },
     };
-    let left = one_family(sides)?;
-    let right = one_family(left.rest?)?;
-    if right.rest.is_some() {
-        return None;
-    }
-    Some(FamilyWords {
-        first: left.first,
-        second: Some(right.first),
-    })
+    words.next().is_none().then_some(family)
 }
 
 // What a kind of a plain family is called.

@@ -1,33 +1,34 @@
 // The listing of a file's rows, a line at a time.
-ghost use Rattle.std.specs.Prelude.{◌≡◌, ◌<◌, length, IfOk, string_bytes, MatchResult};
+ghost use Rattle.std.specs.Prelude.{◌≡◌, ◌<◌, ◌∷◌, length, MatchResult};
+ghost use Rattle.std.specs.Iterator.{YieldsFirstBy, item_count};
 ghost use Rattle.rows.specs.declared.refusal.Refusal.TheVariants.{FileTooLong};
-ghost use Rattle.cli.specs.Listings.{listing, left, Tells};
+ghost use Rattle.cli.specs.Listings.{line_text, listing, left};
 ghost use Rattle.cli.specs.declared.listing.Stage.TheVariants.{Rows};
 
-use crate::texts::{notice_text, row_text, summary_text, tail_text};
+use crate::texts::Line;
 use rows::file::set_on;
-use rows::piece::Piece;
+use rows::piece::{Mark, Piece};
 use rows::refusal::Refusal;
 use rows::rule::RowRule;
-use std::alloc::{AllocError, Global};
 
 // What comes next.
 #[derive(Clone, Copy)]
-pub enum Stage {
-    Rows,
-    Summary,
-    Notice,
+enum Stage {
+    // the row behind those that were told, or the tail; `last` is the mark of the last of them
+    Rows { told: usize, last: Option<Mark> },
+    // the summary of so many rows
+    Summary { rows: usize, last: Option<Mark> },
+    // the notice of the closing row
+    Notice { number: usize },
     Done,
 }
 
-// A rule set on a file; `number` rows were listed, and `last` says whether the last of them was unended.
+// A rule set on a file, and which of the lines comes next.
 #[derive(Drop)]
 pub struct Listing<'f, R> {
     rule: R,
     file: &'f [u8],
     stage: Stage,
-    number: usize,
-    last: bool,
 }
 
 impl<'f, R: RowRule + Drop> Listing<'f, R> {
@@ -36,53 +37,69 @@ impl<'f, R: RowRule + Drop> Listing<'f, R> {
         ensures { MatchResult result (λ l. left R.RowRule.ahead l ≡ listing ((R.RowRule.means rule).cut file.now) (length file.now)) (λ e. (e ≡ FileTooLong) × (16777216 < length file.now)) }
     {
         set_on(&mut rule, file)?;
-        Ok(Listing {
-            rule,
-            file,
-            stage: Stage::Rows,
-            number: 0,
-            last: false,
-        })
+        let stage = Stage::Rows {
+            told: 0,
+            last: None,
+        };
+        Ok(Listing { rule, file, stage })
     }
 
-    // The next line, or none where all are told. Where memory fails, a line may be lost: then make the listing anew.
-    pub fn next_line(&mut self, heap: Global) -> Result<Option<String>, AllocError>
-        ensures { IfOk result (λ o. Tells string_bytes o (left R.RowRule.ahead self.old) (left R.RowRule.ahead self.new)) }
-    {
-        let size = self.file.len();
-        match self.stage {
-            Stage::Rows => self.next_row(heap),
-            Stage::Summary => {
-                self.stage = if self.last {
-                    Stage::Notice
-                } else {
-                    Stage::Done
-                };
-                Ok(Some(summary_text(heap, self.number, size)?))
-            }
-            Stage::Notice => {
-                self.stage = Stage::Done;
-                Ok(Some(notice_text(heap, self.number)?))
-            }
-            Stage::Done => Ok(None),
-        }
-    }
-
-    // The line of the next row, or of the tail.
-    fn next_row(&mut self, heap: Global) -> Result<Option<String>, AllocError>
-        requires { self.old.stage ≡ Rows }
-        ensures { IfOk result (λ o. Tells string_bytes o (left R.RowRule.ahead self.old) (left R.RowRule.ahead self.new)) }
+    // The line of the next row, or of the tail, where so many rows are told and the last of them had this mark.
+    fn next_row(&mut self, told: usize, last: Option<Mark>) -> Line
+        requires { self.old.stage ≡ Rows told last }
+        ensures { left R.RowRule.ahead self.old ≡ line_text result ∷ left R.RowRule.ahead self.new }
     {
         match self.rule.next(self.file) {
             Piece::Row { start, bytes, mark } => {
-                self.number = self.number.saturating_add(1);
-                self.last = mark.is_unended();
-                Ok(Some(row_text(heap, self.number, start, bytes.len(), mark)?))
+                let number = told.saturating_add(1);
+                self.stage = Stage::Rows {
+                    told: number,
+                    last: Some(mark),
+                };
+                Line::Row {
+                    number,
+                    start,
+                    length: bytes.len(),
+                    mark,
+                }
             }
             Piece::Tail { start, bytes } => {
-                self.stage = Stage::Summary;
-                Ok(Some(tail_text(heap, start, bytes.len())?))
+                self.stage = Stage::Summary { rows: told, last };
+                Line::Tail {
+                    start,
+                    length: bytes.len(),
+                }
             }
+        }
+    }
+}
+
+// Each line once, in order.
+impl<'f, R: RowRule + Drop> Iterator for Listing<'f, R> {
+    type Item = Line;
+
+    ghost next_gives = { YieldsFirstBy line_text (left R.RowRule.ahead) };
+
+    ghost remaining = { item_count (left R.RowRule.ahead) };
+
+    fn next(&mut self) -> Option<Line> {
+        match self.stage {
+            Stage::Rows { told, last } => Some(self.next_row(told, last)),
+            Stage::Summary { rows, last } => {
+                self.stage = match last {
+                    Some(Mark::Unended) => Stage::Notice { number: rows },
+                    _ => Stage::Done,
+                };
+                Some(Line::Summary {
+                    rows,
+                    bytes: self.file.len(),
+                })
+            }
+            Stage::Notice { number } => {
+                self.stage = Stage::Done;
+                Some(Line::Notice { number })
+            }
+            Stage::Done => None,
         }
     }
 }

@@ -3,37 +3,20 @@ ghost use Rattle.std.specs.Prelude.{◌≡◌, ◌+◌, ◌-◌, ◌*◌, true, 
 ghost use Rattle.rows.specs.Frames.{measured};
 ghost use Rattle.cli.specs.Numbers.{is_digit, number_in};
 
-// The number of one digit.
-fn digit_of(byte: u8) -> Option<u8>
-    ensures { MatchOption result (is_digit byte ≡ false) (λ d. (is_digit byte ≡ true) × (d ≡ byte - 48)) }
+// A number with one digit more behind it, as far as 64 bits go, if the byte is a digit.
+fn one_more(value: usize, byte: u8) -> Option<usize>
+    ensures { MatchOption result (is_digit byte ≡ false) (λ v. (is_digit byte ≡ true) × (v ≡ measured (value * 10 + (byte - 48)))) }
 {
-    match byte {
-        b'0'..=b'9' => Some(byte - b'0'),
-        _ => None,
-    }
-}
-
-// A number with one digit more behind it, as far as 64 bits go.
-fn one_more(value: usize, digit: u8) -> usize
-    ensures { result ≡ measured (value * 10 + digit) }
-{
-    value.saturating_mul(10).saturating_add(usize::from(digit))
+    let digit = char::from(byte).to_digit(10)?;
+    Some(value.saturating_mul(10).saturating_add(digit as usize))
 }
 
 // The number that some digits stand for, if there are any and nothing else; one too large for 64 bits is told as the greatest.
 pub fn number_of(digits: &str) -> Option<usize>
     ensures { result ≡ number_in digits.now }
 {
-    let bytes = digits.as_bytes();
-    if bytes.is_empty() {
+    if digits.is_empty() {
         return None;
     }
-    let mut value: usize = 0;
-    for byte in bytes {
-        let Some(digit) = digit_of(*byte) else {
-            return None;
-        };
-        value = one_more(value, digit);
-    }
-    Some(value)
+    digits.bytes().try_fold(0, one_more)
 }

@@ -1,28 +1,31 @@
 // What reading a field gives, in words.
-ghost use Rattle.std.specs.Prelude.{◌≡◌, IfOk, string_bytes};
-ghost use Rattle.cli.specs.Readings.{number_line, kept_line, cause_word, cause_line};
+ghost use Rattle.std.specs.Prelude.{◌≡◌, Some};
+ghost use Rattle.cli.specs.Readings.{cause_word, reading_line};
 
 use fields::cause::Cause;
-use std::alloc::{AllocError, Global};
+use std::fmt;
 
-// A numeric field: its number, and how many of the bytes it took.
-pub fn number_text(
-    heap: Global,
-    name: &str,
-    number: i64,
-    length: usize,
-    size: usize,
-) -> Result<String, AllocError>
-    ensures { IfOk result (λ s. string_bytes s ≡ number_line name.now number length size) }
-{
-    format!(in heap; "{name} {number}, {length} of {size} bytes read")
-}
-
-// A kept field: how many of the bytes it keeps.
-pub fn kept_text(heap: Global, name: &str, length: usize, size: usize) -> Result<String, AllocError>
-    ensures { IfOk result (λ s. string_bytes s ≡ kept_line name.now length size) }
-{
-    format!(in heap; "{name}, {length} of {size} bytes kept")
+// What reading some text as a field gave; `name` is what the kind is called, and `length` of the text's `size` bytes were taken.
+#[derive(Clone, Copy)]
+pub enum Reading<'a> {
+    // a numeric field
+    Number {
+        name: &'a str,
+        number: i64,
+        length: usize,
+        size: usize,
+    },
+    // a kept field
+    Kept {
+        name: &'a str,
+        length: usize,
+        size: usize,
+    },
+    // a field that cannot be read
+    Fault {
+        name: &'a str,
+        cause: Cause,
+    },
 }
 
 // A cause in words.
@@ -37,11 +40,26 @@ pub fn cause_words(cause: Cause) -> &'static str
     }
 }
 
-// A field that cannot be read: the cause, by its number and in words.
-pub fn cause_text(heap: Global, name: &str, cause: Cause) -> Result<String, AllocError>
-    ensures { IfOk result (λ s. string_bytes s ≡ cause_line name.now cause) }
-{
-    let number = cause.number();
-    let why = cause_words(cause);
-    format!(in heap; "{name}: cause {number}, {why}")
+// The line that tells a reading.
+impl fmt::Display for Reading<'_> {
+    ghost output = { λ r. Some (reading_line r) };
+
+    fn fmt<W: fmt::Write>(&self, f: &mut fmt::Formatter<W>) -> fmt::Result {
+        match *self {
+            Reading::Number {
+                name,
+                number,
+                length,
+                size,
+            } => write!(f, "{name} {number}, {length} of {size} bytes read"),
+            Reading::Kept { name, length, size } => {
+                write!(f, "{name}, {length} of {size} bytes kept")
+            }
+            Reading::Fault { name, cause } => {
+                let number = cause.number();
+                let why = cause_words(cause);
+                write!(f, "{name}: cause {number}, {why}")
+            }
+        }
+    }
 }

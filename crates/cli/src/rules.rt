@@ -52,6 +52,7 @@ pub fn any_rule(first: Option<usize>, plain: PlainRule) -> Result<AnyRule, Refus
 }
 
 // A sample of `n` rows under the samples before it is one sample of the least number.
+#[tactic(auto, using(crate::proofs::Nested::least_sample))]
 pub fn nested(first: Option<usize>, n: usize) -> usize
     ensures { (m : Meaning) → sampled result m ≡ chosen_meaning first (sampled n m) }
 {
@@ -66,13 +67,9 @@ fn width_of(words: &str) -> Result<Option<usize>, RuleFault> {
     if words == "newline" {
         return Ok(None);
     }
-    let Some(digits) = words.strip_prefix("fixed:") else {
-        return Err(RuleFault::Unreadable);
-    };
-    match number_of(digits) {
-        Some(width) => Ok(Some(width)),
-        None => Err(RuleFault::Unreadable),
-    }
+    let digits = words.strip_prefix("fixed:").ok_or(RuleFault::Unreadable)?;
+    let width = number_of(digits).ok_or(RuleFault::Unreadable)?;
+    Ok(Some(width))
 }
 
 // The rule that the words `newline`, `fixed:W` or `sample:N:RULE` stand for. The rule below a sample is made first.
@@ -80,16 +77,9 @@ pub fn rule_of(words: &str) -> Result<AnyRule, RuleFault> {
     let mut rest = words;
     let mut first = None;
     let mut most = 0;
-    for _ in 0..words.len() {
-        let Some(sample) = rest.strip_prefix("sample:") else {
-            break;
-        };
-        let Some((digits, below)) = sample.split_once(':') else {
-            return Err(RuleFault::Unreadable);
-        };
-        let Some(n) = number_of(digits) else {
-            return Err(RuleFault::Unreadable);
-        };
+    while let Some(sample) = rest.strip_prefix("sample:") {
+        let (digits, below) = sample.split_once(':').ok_or(RuleFault::Unreadable)?;
+        let n = number_of(digits).ok_or(RuleFault::Unreadable)?;
         most = most.max(n);
         first = Some(nested(first, n));
         rest = below;

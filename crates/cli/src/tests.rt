@@ -2,8 +2,8 @@
 use crate::families::family_of;
 use crate::listing::Listing;
 use crate::numbers::number_of;
-use crate::problems::{Problem, problem_text};
-use crate::readings::{cause_text, kept_text, number_text};
+use crate::problems::Problem;
+use crate::readings::Reading;
 use crate::rules::{RuleFault, rule_of};
 use fields::cause::Cause;
 use rows::newline::Newline;
@@ -14,17 +14,10 @@ use std::test::Fail;
 
 // The lines of a listing, one after another.
 fn listed<R: RowRule + Drop>(heap: Global, rule: R, file: &[u8]) -> Result<String, Fail> {
-    let mut listing = match Listing::new(rule, file) {
-        Ok(listing) => listing,
-        Err(_) => return Err(Fail::new("too long")),
-    };
+    let listing = Listing::new(rule, file).map_err(|_| Fail::new("too long"))?;
     let mut text = String::new(heap);
-    for _ in 0..100 {
-        let Some(line) = listing.next_line(heap)? else {
-            break;
-        };
-        text.push_str(line.as_str())?;
-        text.push('\n')?;
+    for line in listing {
+        writeln!(text, "{line}")?;
     }
     Ok(text)
 }
@@ -49,10 +42,8 @@ fn newline_rows_are_listed(rt: HostRuntime) -> Result<(), Fail> {
 
 // The lines of the listing of a file under the rule that some words stand for.
 fn listed_by(heap: Global, words: &str, file: &[u8]) -> Result<String, Fail> {
-    match rule_of(words) {
-        Ok(rule) => listed(heap, rule, file),
-        Err(_) => Err(Fail::new("no rule")),
-    }
+    let rule = rule_of(words).map_err(|_| Fail::new("no rule"))?;
+    listed(heap, rule, file)
 }
 
 #[test]
@@ -120,31 +111,35 @@ fn words_of_rules_are_read(rt: HostRuntime) {
 fn problems_are_told(rt: HostRuntime) -> Result<(), Fail> {
     let heap = rt.alloc();
     assert_eq!(rt;
-        problem_text(heap, Problem::NoCommand("row"))?.as_str(),
+        Problem::NoCommand("row").to_string(heap)?.as_str(),
         "neskvaru: there is no command 'row'; neskvaru alone tells how it is used"
     );
     assert_eq!(rt;
-        problem_text(heap, Problem::NoRule("lines"))?.as_str(),
+        Problem::NoRule("lines").to_string(heap)?.as_str(),
         "neskvaru: 'lines' is no row rule; write newline, fixed:W or sample:N:RULE"
     );
     assert_eq!(rt;
-        problem_text(
-            heap,
-            Problem::Unreadable("x.csv", "No such file or directory"),
-        )?
-        .as_str(),
+        Problem::Unreadable("x.csv", "No such file or directory")
+            .to_string(heap)?
+            .as_str(),
         "neskvaru: cannot read the file 'x.csv': No such file or directory"
     );
     assert_eq!(rt;
-        problem_text(heap, Problem::WrongWords("rows RULE FILE"))?.as_str(),
+        Problem::WrongWords("rows RULE FILE")
+            .to_string(heap)?
+            .as_str(),
         "neskvaru: too few or too many words; write: neskvaru rows RULE FILE"
     );
     assert_eq!(rt;
-        problem_text(heap, Problem::Refused(Refusal::FileTooLong, "x.csv"))?.as_str(),
+        Problem::Refused(Refusal::FileTooLong, "x.csv")
+            .to_string(heap)?
+            .as_str(),
         "neskvaru: refused, number 8: a file has more than 16777216 bytes: 'x.csv'"
     );
     assert_eq!(rt;
-        problem_text(heap, Problem::Refused(Refusal::OutOfRange, "fixed:0"))?.as_str(),
+        Problem::Refused(Refusal::OutOfRange, "fixed:0")
+            .to_string(heap)?
+            .as_str(),
         "neskvaru: refused, number 11: a width is not 1 to 4096, or a sample is not 0 to 16777216: 'fixed:0'"
     );
     Ok(())
@@ -188,16 +183,28 @@ fn words_of_families_are_read(rt: HostRuntime) {
 #[test]
 fn readings_are_told(rt: HostRuntime) -> Result<(), Fail> {
     let heap = rt.alloc();
+    let number = Reading::Number {
+        name: "amount",
+        number: -1250,
+        length: 6,
+        size: 7,
+    };
     assert_eq!(rt;
-        number_text(heap, "amount", -1250, 6, 7)?.as_str(),
+        number.to_string(heap)?.as_str(),
         "amount -1250, 6 of 7 bytes read"
     );
+    let kept = Reading::Kept {
+        name: "text",
+        length: 3,
+        size: 8,
+    };
+    assert_eq!(rt; kept.to_string(heap)?.as_str(), "text, 3 of 8 bytes kept");
+    let fault = Reading::Fault {
+        name: "date",
+        cause: Cause::Range,
+    };
     assert_eq!(rt;
-        kept_text(heap, "text", 3, 8)?.as_str(),
-        "text, 3 of 8 bytes kept"
-    );
-    assert_eq!(rt;
-        cause_text(heap, "date", Cause::Range)?.as_str(),
+        fault.to_string(heap)?.as_str(),
         "date: cause 3, too large, or no such date"
     );
     Ok(())

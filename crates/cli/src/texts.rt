@@ -1,9 +1,9 @@
-// The lines of a listing, as text.
-ghost use Rattle.std.specs.Prelude.{◌≡◌, IfOk, string_bytes};
-ghost use Rattle.cli.specs.Listings.{word, row_line, tail_words, tail_line, ending, plural, summary_line, notice_line};
+// The lines of a listing, and how they are written.
+ghost use Rattle.std.specs.Prelude.{◌≡◌, Some};
+ghost use Rattle.cli.specs.Listings.{word, plural, line_text};
 
 use rows::piece::Mark;
-use std::alloc::{AllocError, Global};
+use std::fmt;
 
 // How a mark is called.
 pub fn mark_word(mark: Mark) -> &'static str
@@ -15,64 +15,87 @@ pub fn mark_word(mark: Mark) -> &'static str
     }
 }
 
-pub fn row_text(
-    heap: Global,
-    number: usize,
-    start: usize,
-    length: usize,
-    mark: Mark,
-) -> Result<String, AllocError>
-    ensures { IfOk result (λ s. string_bytes s ≡ row_line number start length mark) }
-{
-    let word = mark_word(mark);
-    format!(in heap; "row {number}: start {start}, length {length}, {word}")
+// One line of a listing.
+#[derive(Clone, Copy)]
+pub enum Line {
+    // a row: its number, where it starts, how long it is, and how it ends
+    Row {
+        number: usize,
+        start: usize,
+        length: usize,
+        mark: Mark,
+    },
+    // the tail, behind the rows
+    Tail {
+        start: usize,
+        length: usize,
+    },
+    // how many rows were listed, and how many bytes the file has
+    Summary {
+        rows: usize,
+        bytes: usize,
+    },
+    // the closing row, so numbered, is unended
+    Notice {
+        number: usize,
+    },
 }
 
-// What is said of a tail that is not empty.
-fn tail_note(length: usize) -> &'static str
-    ensures { result.now ≡ tail_words length }
-{
-    if length == 0 {
-        ""
-    } else {
-        ": these bytes belong to no row"
+impl fmt::Display for Line {
+    ghost output = { λ line. Some (line_text line) };
+
+    fn fmt<W: fmt::Write>(&self, f: &mut fmt::Formatter<W>) -> fmt::Result {
+        match *self {
+            Line::Row {
+                number,
+                start,
+                length,
+                mark,
+            } => {
+                let word = mark_word(mark);
+                write!(f, "row {number}: start {start}, length {length}, {word}")
+            }
+            Line::Tail { start, length } => {
+                // what is said of a tail that is not empty
+                let note = if length == 0 {
+                    ""
+                } else {
+                    ": these bytes belong to no row"
+                };
+                write!(f, "tail: start {start}, length {length}{note}")
+            }
+            Line::Summary { rows, bytes } => {
+                let listed = Plural {
+                    count: rows,
+                    noun: "row",
+                };
+                let size = Plural {
+                    count: bytes,
+                    noun: "byte",
+                };
+                write!(f, "{listed}; the file has {size}")
+            }
+            Line::Notice { number } => write!(
+                f,
+                "notice: the closing row, row {number}, has no newline at its end; it is a row like the others and is counted"
+            ),
+        }
     }
 }
 
-pub fn tail_text(heap: Global, start: usize, length: usize) -> Result<String, AllocError>
-    ensures { IfOk result (λ s. string_bytes s ≡ tail_line start length) }
-{
-    let note = tail_note(length);
-    format!(in heap; "tail: start {start}, length {length}{note}")
-}
-
-pub fn notice_text(heap: Global, number: usize) -> Result<String, AllocError>
-    ensures { IfOk result (λ s. string_bytes s ≡ notice_line number) }
-{
-    format!(in heap;
-        "notice: the closing row, row {number}, has no newline at its end; it is a row like the others and is counted"
-    )
-}
-
-// What a noun ends in behind a number.
-fn ending_word(count: usize) -> &'static str
-    ensures { result.now ≡ ending count }
-{
-    if count == 1 { "" } else { "s" }
-}
-
 // A number of things: `1 row`, `2 rows`.
-pub fn plural_text(heap: Global, count: usize, noun: &str) -> Result<String, AllocError>
-    ensures { IfOk result (λ s. string_bytes s ≡ plural count noun.now) }
-{
-    let ending = ending_word(count);
-    format!(in heap; "{count} {noun}{ending}")
+#[derive(Clone, Copy)]
+pub struct Plural<'a> {
+    pub count: usize,
+    pub noun: &'a str,
 }
 
-pub fn summary_text(heap: Global, count: usize, size: usize) -> Result<String, AllocError>
-    ensures { IfOk result (λ s. string_bytes s ≡ summary_line count size) }
-{
-    let rows = plural_text(heap, count, "row")?;
-    let bytes = plural_text(heap, size, "byte")?;
-    format!(in heap; "{rows}; the file has {bytes}")
+impl fmt::Display for Plural<'_> {
+    ghost output = { λ p. Some (plural p.count p.noun.now) };
+
+    fn fmt<W: fmt::Write>(&self, f: &mut fmt::Formatter<W>) -> fmt::Result {
+        let (count, noun) = (self.count, self.noun);
+        let ending = if count == 1 { "" } else { "s" };
+        write!(f, "{count} {noun}{ending}")
+    }
 }

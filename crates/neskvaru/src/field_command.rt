@@ -1,65 +1,51 @@
 // The command `field`: reads one field of some text, and says what that gives.
-use crate::{Outcome, stop};
+use crate::failure::Failure;
 use cli::families::{chosen_family, family_of};
 use cli::numbers::number_of;
 use cli::problems::Problem;
-use cli::readings::{cause_text, kept_text, number_text};
+use cli::readings::Reading;
 use fields::cause::Sort;
 use fields::family::Family;
 use fields::start::read_start;
 
 // A number from a word, if it is at most so large.
 fn small_number(word: &str, most: u8) -> Option<u8> {
-    let number = number_of(word)?;
-    if number > usize::from(most) {
-        return None;
-    }
-    u8::try_from(number).ok()
+    let number = u8::try_from(number_of(word)?).ok()?;
+    (number <= most).then_some(number)
 }
 
-// Reads the text as a field of a kind, and writes one line.
-fn show_field<F: Family>(
-    rt: &HostRuntime,
-    family: &F,
-    name: &str,
-    kind: u8,
-    p: u8,
-    text: &str,
-) -> anyhow::Result<()> {
-    let heap = rt.alloc();
+// What reading the text as a field of a kind gives; `name` is what the kind is called.
+fn reading<'a, F: Family>(family: &F, name: &'a str, kind: u8, p: u8, text: &str) -> Reading<'a> {
     let size = text.len();
-    let line = match read_start(family, kind, p, text.as_bytes()) {
+    match read_start(family, kind, p, text.as_bytes()) {
         Ok((length, number)) => match family.sort(kind, p) {
-            Sort::Kept => kept_text(heap, name, length, size)?,
-            _ => number_text(heap, name, number, length, size)?,
+            Sort::Kept => Reading::Kept { name, length, size },
+            _ => Reading::Number {
+                name,
+                number,
+                length,
+                size,
+            },
         },
-        Err(cause) => cause_text(heap, name, cause)?,
-    };
-    rt.println(line)?;
-    Ok(())
+        Err(cause) => Reading::Fault { name, cause },
+    }
 }
 
-// Reads a field of the family that the words stand for.
-pub fn read_field(
+// Reads a field of the family that the words stand for, and writes one line.
+pub fn read_field<'a>(
     rt: &HostRuntime,
-    family: &str,
-    kind: &str,
-    p: &str,
+    family: &'a str,
+    kind: &'a str,
+    p: &'a str,
     text: &str,
-) -> anyhow::Result<Outcome> {
-    let Some(words) = family_of(family) else {
-        return stop(rt, Problem::NoFamily(family));
-    };
-    let Some(k) = small_number(kind, 63) else {
-        return stop(rt, Problem::NoNumber(kind));
-    };
-    let Some(parameter) = small_number(p, 255) else {
-        return stop(rt, Problem::NoNumber(p));
-    };
+) -> Result<(), Failure<'a>> {
+    let words = family_of(family).ok_or(Problem::NoFamily(family))?;
+    let k = small_number(kind, 63).ok_or(Problem::NoNumber(kind))?;
+    let parameter = small_number(p, 255).ok_or(Problem::NoNumber(p))?;
     let chosen = chosen_family(words);
     if let Sort::Unknown = chosen.sort(k, parameter) {
-        return stop(rt, Problem::UnknownKind(family));
+        return Err(Problem::UnknownKind(family).into());
     }
-    show_field(rt, &chosen, words.kind_name(k), k, parameter, text)?;
-    Ok(Outcome::Done)
+    rt.println(reading(&chosen, words.kind_name(k), k, parameter, text))?;
+    Ok(())
 }

@@ -1,22 +1,17 @@
 // The program: it reads its words, does what they ask from start to finish, and says what it did.
 #![tactic(auto)]
 
+mod failure;
 mod field_command;
 mod files;
 mod rows_command;
 
+use crate::failure::Failure;
 use crate::field_command::read_field;
 use crate::rows_command::list_rows;
-use cli::problems::{Problem, problem_text};
+use cli::problems::Problem;
 use std::env;
 use std::process::ExitCode;
-
-// How a command ended: it is done, or a problem was told on standard error.
-#[derive(Clone, Copy)]
-pub enum Outcome {
-    Done,
-    Stopped,
-}
 
 // How the program is used.
 const HELP: &str = "neskvaru cuts a bank's export into rows and tells, row by row, what it found.
@@ -37,60 +32,46 @@ FAMILY is one of
 A file has at most 16777216 bytes. A refusal is told on standard error, with status 1.
 ";
 
-// Tells a problem on standard error.
-pub fn stop(rt: &HostRuntime, problem: Problem) -> anyhow::Result<Outcome> {
-    let line = problem_text(rt.alloc(), problem)?;
-    eprintln!(rt; "{line}")?;
-    Ok(Outcome::Stopped)
-}
-
-// Does what the words after the program's own name ask.
-fn run(rt: &HostRuntime) -> anyhow::Result<Outcome> {
-    let words = match words_of(rt) {
-        Ok(words) => words,
-        Err(error) => {
-            let reason = error.to_string(rt.alloc())?;
-            return stop(rt, Problem::BadWords(reason.as_str()));
-        }
-    };
-    match words.as_slice() {
-        [] | [_] => {
-            rt.print(HELP)?;
-            Ok(Outcome::Done)
-        }
+// Does what the words ask; the first is the program's own name.
+fn run<'a>(rt: &HostRuntime, words: &'a [String]) -> Result<(), Failure<'a>> {
+    match words {
+        [] | [_] => rt.print(HELP)?,
         [_, command, rest @ ..] => match (command.as_str(), rest) {
-            ("rows", [rule, file]) => list_rows(rt, rule.as_str(), file.as_str()),
+            ("rows", [rule, file]) => list_rows(rt, rule.as_str(), file.as_str())?,
             ("field", [family, kind, p, text]) => read_field(
                 rt,
                 family.as_str(),
                 kind.as_str(),
                 p.as_str(),
                 text.as_str(),
-            ),
-            ("field", _) => stop(rt, Problem::WrongWords("field FAMILY KIND P TEXT")),
-            ("rows", _) => stop(rt, Problem::WrongWords("rows RULE FILE")),
-            (other, _) => stop(rt, Problem::NoCommand(other)),
+            )?,
+            ("field", _) => return Err(Problem::WrongWords("field FAMILY KIND P TEXT").into()),
+            ("rows", _) => return Err(Problem::WrongWords("rows RULE FILE").into()),
+            (other, _) => return Err(Problem::NoCommand(other).into()),
         },
     }
+    Ok(())
 }
 
 // The words that the program was called with.
 fn words_of(rt: &HostRuntime) -> anyhow::Result<Vec<String>> {
-    let mut words = Vec::new(rt.alloc());
-    for word in env::args(rt)? {
-        words.push(word)?;
-    }
-    Ok(words)
+    Ok(env::args(rt)?.collect(rt.alloc())?)
 }
 
-// A problem ends the program with status 1, and so does an error, which is told first.
+// A problem ends the program with status 1, and so does any other error; both are told.
 fn main(rt: HostRuntime) -> ExitCode {
-    match run(&rt) {
-        Ok(Outcome::Done) => ExitCode::SUCCESS,
-        Ok(Outcome::Stopped) => ExitCode::FAILURE,
-        Err(error) => {
-            // where standard error cannot be written to, there is nobody left to tell
-            let _ = eprintln!(rt; "neskvaru: {error}");
+    let words = words_of(&rt);
+    let outcome = match &words {
+        Ok(words) => run(&rt, words.as_slice()),
+        Err(error) => Err(Failure::BadWords(error)),
+    };
+    match outcome {
+        Ok(()) => ExitCode::SUCCESS,
+        Err(failure) => {
+            if let Err(error) = failure.tell(&rt) {
+                // where standard error cannot be written to, there is nobody left to tell
+                let _ = eprintln!(rt; "neskvaru: {error}");
+            }
             ExitCode::FAILURE
         }
     }
