@@ -18,7 +18,7 @@ use Rattle.layout.specs.Judged.{Limits, judged}
 use Rattle.layout.proofs.Rising.{unset, positive}
 
 -- what holds of every shape that a record may have holds of its own
-pub by_shape : (P : Option Shape → Type 0) (r : NodeRecord) → P (Some (Field r.kind r.parameter (some_number r.column))) → P (Some (Mark r.parameter)) → P (Some (Sequence r.child)) → P (Some (Choice r.child)) → P (Some (Optional r.child)) → P (Some (Check (relation_of r.kind) r.column (side_of r.parameter))) → P None → P (shape_of r)
+pub by_shape : (P : Option Shape → Type 0) (r : NodeRecord) → P (Some (Field (record { code = r.kind; parameter = r.parameter }) (some_number r.column))) → P (Some (Mark r.parameter)) → P (Some (Sequence r.child)) → P (Some (Choice r.child)) → P (Some (Optional r.child)) → P (Some (Check (relation_of r.kind) r.column (side_of r.parameter))) → P None → P (shape_of r)
 by_shape P r field mark sequence choice optional check none =
     cond_both (eqb r.shape 1) _ _ P (λ _. field)
     (λ _. cond_both (eqb r.shape 2) _ _ P (λ _. mark)

@@ -39,7 +39,7 @@ module _ (nodes : List Node) (constants : List ℤ) (rises : Rising (links nodes
 
   -- its child, where it has one, is a node
   shape_named : (s : Shape) → childless (arity_of s) (child_number s) ≡ false → names_none (child_of s) ≡ false
-  shape_named (Field kind parameter column) h = refl
+  shape_named (Field kind column) h = refl
   shape_named (Mark byte) h = refl
   shape_named (Sequence child) h = h
   shape_named (Choice child) h = h
@@ -108,7 +108,7 @@ module _ (nodes : List Node) (constants : List ℤ) (rises : Rising (links nodes
 
   -- what holds of every part and what is below it holds of a node's: where it has no child, nothing is below
   at_part : (P : Part → Parts → Type 0) (i : ℕ) → ((k p : ℕ) (c : Option ℕ) → P (field i k p c) end) → ((b : ℕ) → P (mark i b) end) → ((r : Relation) (l : ℕ) (o : Operand) → P (check i r l o) end) → ((ps : Parts) → P (sequence i ps) ps) → ((ps : Parts) → P (choice i ps) ps) → ((ps : Parts) → P (optional i ps) ps) → (f : ℕ) (s : Shape) → P (part_of constants i s (parts_in nodes constants f (child_number s))) (parts_in nodes constants f (child_number s))
-  at_part P i a b c d e g f (Field kind parameter column) = subst (P (field i kind parameter column)) (sym (parts_none f)) (a kind parameter column)
+  at_part P i a b c d e g f (Field kind column) = subst (P (field i kind.code kind.parameter column)) (sym (parts_none f)) (a kind.code kind.parameter column)
   at_part P i a b c d e g f (Mark byte) = subst (P (mark i byte)) (sym (parts_none f)) (b byte)
   at_part P i a b c d e g f (Sequence child) = d (parts_in nodes constants f child)
   at_part P i a b c d e g f (Choice child) = e (parts_in nodes constants f child)
@@ -293,7 +293,7 @@ module _ (nodes : List Node) (constants : List ℤ) (rises : Rising (links nodes
   one_below f (suc j) o e = subst (λ ps. OnePart (part_of constants (suc j) (node_at nodes (suc j)).shape (parts_in nodes constants f (child_at (suc j))) then ps)) (sym (ap (parts_in nodes constants f) e ∙ parts_none f)) tt
 
   part_filled : (i f : ℕ) (s : Shape) → (0 < child_number s → 0 < f) → childless (arity_of s) (child_number s) ≡ false → crowded (arity_of s) (next_at (child_number s)) ≡ false → AllFilled (parts_in nodes constants f (child_number s)) → Filled (part_of constants i s (parts_in nodes constants f (child_number s)))
-  part_filled i f (Field kind parameter column) more c w all = tt
+  part_filled i f (Field kind column) more c w all = tt
   part_filled i f (Mark byte) more c w all = tt
   part_filled i zero (Sequence child) more c w all = absurd (omega (arith, more (positive child c)))
   part_filled i (suc f) (Sequence child) more c w all = (some_below f child (positive child c), all)

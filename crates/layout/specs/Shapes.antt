@@ -27,7 +27,7 @@ side_of p = cond (nat_le 64 p) (Constant (p - 64)) (Column p)
 -- 1 field, 2 mark, 3 sequence, 4 choice, 5 option, 7 check; any other number is no shape
 abbrev pub shape_of : NodeRecord → Option Shape
 shape_of r =
-    cond (r.shape == 1) (Some (Field r.kind r.parameter (some_number r.column)))
+    cond (r.shape == 1) (Some (Field (record { code = r.kind; parameter = r.parameter }) (some_number r.column)))
     (cond (r.shape == 2) (Some (Mark r.parameter))
     (cond (r.shape == 3) (Some (Sequence r.child))
     (cond (r.shape == 4) (Some (Choice r.child))
@@ -51,7 +51,7 @@ any_set (n ∷ ns) = is_set n || any_set ns
 -- the shape is unknown, or a number that it does not name is not zero, the closing bits among them
 abbrev pub stray_by : Option Shape → NodeRecord → Bool
 stray_by None r = true
-stray_by (Some (Field kind parameter column)) r = any_set (r.child ∷ r.rest ∷ [])
+stray_by (Some (Field kind column)) r = any_set (r.child ∷ r.rest ∷ [])
 stray_by (Some (Mark byte)) r = any_set (r.kind ∷ r.column ∷ r.child ∷ r.rest ∷ [])
 stray_by (Some (Sequence child)) r = any_set (r.kind ∷ r.parameter ∷ r.column ∷ r.rest ∷ [])
 stray_by (Some (Choice child)) r = any_set (r.kind ∷ r.parameter ∷ r.column ∷ r.rest ∷ [])
@@ -62,7 +62,7 @@ abbrev pub stray : NodeRecord → Bool
 stray r = stray_by (shape_of r) r
 
 abbrev pub arity_of : Shape → Arity
-arity_of (Field kind parameter column) = none
+arity_of (Field kind column) = none
 arity_of (Mark byte) = none
 arity_of (Sequence child) = several
 arity_of (Choice child) = several
@@ -95,7 +95,7 @@ sorts means kind parameter = (means kind parameter).sort
 -- a field whose kind with its parameter is unknown
 abbrev pub unknown_by : (ℕ → ℕ → Sort) → Option Shape → Bool
 unknown_by sorts None = false
-unknown_by sorts (Some (Field kind parameter column)) = is_unknown (sorts kind parameter)
+unknown_by sorts (Some (Field kind column)) = is_unknown (sorts kind.code kind.parameter)
 unknown_by sorts (Some (Mark byte)) = false
 unknown_by sorts (Some (Sequence child)) = false
 unknown_by sorts (Some (Choice child)) = false
@@ -115,7 +115,7 @@ is_side columns k p = within 1 columns p || (within 64 127 p && nat_lt (p - 64) 
 -- a field's column, which may be 0; a check's relation, its left column and its right side
 abbrev pub outside_by : ℕ → ℕ → Option Shape → NodeRecord → Bool
 outside_by columns k None r = false
-outside_by columns k (Some (Field kind parameter column)) r = nat_lt columns r.column
+outside_by columns k (Some (Field kind column)) r = nat_lt columns r.column
 outside_by columns k (Some (Mark byte)) r = false
 outside_by columns k (Some (Sequence child)) r = false
 outside_by columns k (Some (Choice child)) r = false
@@ -136,7 +136,7 @@ misplaced_side columns k (Column c) = not (within 1 columns c)
 misplaced_side columns k (Constant c) = not (nat_lt c k)
 
 abbrev pub misplaced : ℕ → ℕ → Shape → Bool
-misplaced columns k (Field kind parameter column) = misplaced_column columns column
+misplaced columns k (Field kind column) = misplaced_column columns column
 misplaced columns k (Mark byte) = false
 misplaced columns k (Sequence child) = false
 misplaced columns k (Choice child) = false
@@ -145,7 +145,7 @@ misplaced columns k (Check relation left right) = not (within 1 columns left) ||
 
 -- a field's kind with its parameter is not unknown; other shapes have no kind
 abbrev pub KnownShape : (ℕ → ℕ → Sort) → Shape → Type 0
-KnownShape sorts (Field kind parameter column) = sorts kind parameter ≡ Unknown → ⊥
+KnownShape sorts (Field kind column) = sorts kind.code kind.parameter ≡ Unknown → ⊥
 KnownShape sorts (Mark byte) = Unit {0}
 KnownShape sorts (Sequence child) = Unit {0}
 KnownShape sorts (Choice child) = Unit {0}

@@ -47,7 +47,7 @@ node_at nodes i = get_or nodes (i - 1) blank
 
 -- the first node below, of a shape that has parts
 abbrev pub child_of : Shape → Option ℕ
-child_of (Field kind parameter column) = None
+child_of (Field kind column) = None
 child_of (Mark byte) = None
 child_of (Sequence child) = Some child
 child_of (Choice child) = Some child
@@ -67,7 +67,7 @@ operand_of constants (Constant k) = number (slice_index_or constants k (pos 0))
 
 -- node i as a part, with the parts below it
 abbrev pub part_of : List ℤ → ℕ → Shape → Parts → Part
-part_of constants i (Field kind parameter column) below = field i kind parameter column
+part_of constants i (Field kind column) below = field i kind.code kind.parameter column
 part_of constants i (Mark byte) below = mark i byte
 part_of constants i (Sequence child) below = sequence i below
 part_of constants i (Choice child) below = choice i below

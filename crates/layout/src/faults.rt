@@ -125,13 +125,7 @@ fn has_unknown_kind<F: Family>(family: &F, node: &NodeRecord) -> bool
     ensures { result ≡ unknown (sorts (F.Family.means family.now)) node.now }
 {
     match shape_of(node) {
-        Some(
-            Shape::Field {
-                kind,
-                parameter,
-                ..
-            },
-        ) => matches!(family.sort(kind, parameter), Sort::Unknown),
+        Some(Shape::Field { kind, .. }) => family.sort(kind) == Sort::Unknown,
         _ => false,
     }
 }

@@ -2,6 +2,8 @@
 ghost use Rattle.std.specs.Prelude.{◌≡◌};
 ghost use Rattle.layout.specs.Trees.{child_of};
 
+use fields::family::Kind;
+
 // How the left side of a check has to stand to the right side.
 #[derive(Clone, Copy, PartialEq, Eq, Debug)]
 pub enum Relation {
@@ -23,10 +25,9 @@ pub enum Side {
 // What a node is. Nodes count from 1, the root; a child is the first of the nodes below, and in a table it is always there.
 #[derive(Clone, Copy, PartialEq, Eq, Debug)]
 pub enum Shape {
-    // a field of the family's kind with its parameter; its number goes to the column, 1 to 32, if there is one
+    // a field of the family; its number goes to the column, 1 to 32, if there is one
     Field {
-        kind: u8,
-        parameter: u8,
+        kind: Kind,
         column: Option<u8>,
     },
     // one byte that has to stand there

@@ -3,6 +3,7 @@ ghost use Rattle.std.specs.Prelude.{◌≡◌};
 ghost use Rattle.layout.specs.Shapes.{relation_of, side_of, shape_of, node_of};
 
 use crate::node::{Node, Relation, Shape, Side};
+use fields::family::Kind;
 use packed::record::NodeRecord;
 
 // 1 equal, 2 unequal, 3 less, 4 at most.
@@ -33,8 +34,10 @@ pub(crate) fn shape_of(node: &NodeRecord) -> Option<Shape>
 {
     match node.shape {
         1 => Some(Shape::Field {
-            kind: node.kind,
-            parameter: node.parameter,
+            kind: Kind {
+                code: node.kind,
+                parameter: node.parameter,
+            },
             column: (node.column != 0).then_some(node.column),
         }),
         2 => Some(Shape::Mark {

@@ -4,8 +4,8 @@ use Rattle.fields.specs.Places.{number_on, places}
 
 -- the number that bytes make
 abbrev pub big : List ℕ → ℕ
-big bytes = number_on 256 (λ b. b) 0 bytes
+big bytes = number_on 256 0 0 bytes
 
 -- the eight bytes of a number
 abbrev pub octets : ℕ → List ℕ
-octets n = places 256 (λ d. d) 8 n
+octets n = places 256 0 8 n

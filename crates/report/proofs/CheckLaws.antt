@@ -22,7 +22,7 @@ use Rattle.report.proofs.Steps.{Inner, Faulting, Steps, reading_keeps}
 module _ (nodes : List Node) (constants : List ℤ) where
   -- a check's outcome among values; other shapes have none
   abbrev DecidedBy : Shape → List Value → Outcome → Type 0
-  DecidedBy (Field kind parameter column) vs o = Unit {0}
+  DecidedBy (Field kind column) vs o = Unit {0}
   DecidedBy (Mark byte) vs o = Unit {0}
   DecidedBy (Sequence child) vs o = Unit {0}
   DecidedBy (Choice child) vs o = Unit {0}
@@ -48,7 +48,7 @@ module _ (nodes : List Node) (constants : List ℤ) where
       subst (λ ws. LineDecided ws l) (append_assoc vs (value_of nodes a) (values nodes above)) (at_decided above l below (vs ++ value_of nodes a) h.1)
 
   inner_decided : (s : Shape) (vs : List Value) (o : Outcome) → Inner s → DecidedBy s vs o
-  inner_decided (Field kind parameter column) vs o h = tt
+  inner_decided (Field kind column) vs o h = tt
   inner_decided (Mark byte) vs o h = tt
   inner_decided (Sequence child) vs o h = tt
   inner_decided (Choice child) vs o h = tt
@@ -56,7 +56,7 @@ module _ (nodes : List Node) (constants : List ℤ) where
   inner_decided (Check relation left right) vs o h = absurd h
 
   inner_bare : (s : Shape) → Inner s → column_of s ≡ None
-  inner_bare (Field kind parameter column) h = absurd h
+  inner_bare (Field kind column) h = absurd h
   inner_bare (Mark byte) h = refl
   inner_bare (Sequence child) h = refl
   inner_bare (Choice child) h = refl
@@ -64,7 +64,7 @@ module _ (nodes : List Node) (constants : List ℤ) where
   inner_bare (Check relation left right) h = refl
 
   fault_decided : (s : Shape) (vs : List Value) (o : Outcome) → Faulting s → DecidedBy s vs o
-  fault_decided (Field kind parameter column) vs o h = tt
+  fault_decided (Field kind column) vs o h = tt
   fault_decided (Mark byte) vs o h = tt
   fault_decided (Sequence child) vs o h = tt
   fault_decided (Choice child) vs o h = tt
@@ -72,7 +72,7 @@ module _ (nodes : List Node) (constants : List ℤ) where
   fault_decided (Check relation left right) vs o h = absurd h
 
   passed_decided : (s : Shape) (vs : List Value) → DecidedBy s vs Skipped
-  passed_decided (Field kind parameter column) vs = tt
+  passed_decided (Field kind column) vs = tt
   passed_decided (Mark byte) vs = tt
   passed_decided (Sequence child) vs = tt
   passed_decided (Choice child) vs = tt

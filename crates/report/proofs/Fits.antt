@@ -13,7 +13,7 @@ Has nodes i s = (node_at nodes i).shape ≡ s
 module _ (nodes : List Node) (constants : List ℤ) where
   abbrev mutual
     pub Fits : Part → Type 0
-    Fits (field i kind parameter column) = Has nodes i (Field kind parameter column)
+    Fits (field i kind parameter column) = Has nodes i (Field (record { code = kind; parameter = parameter }) column)
     Fits (mark i byte) = Has nodes i (Mark byte)
     Fits (check i relation left right) = (side : Side) × (Has nodes i (Check relation left side)) × (right ≡ operand_of constants side)
     Fits (sequence i parts) = ((child : ℕ) × Has nodes i (Sequence child)) × AllFit parts

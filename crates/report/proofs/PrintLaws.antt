@@ -119,7 +119,7 @@ module _ (means : ℕ → ℕ → Meaning) (nodes : List Node) (row : List ℕ) 
       (subst (λ x. share x 1 ≤ length (drop p row)) (sym s) zero-le) (omega (arith, stands_below row b p e))
 
   -- a field that was read, by the sort of its kind
-  field_covers : (i kind parameter : ℕ) (column : Option ℕ) (p n : ℕ) (z : ℤ) → Has nodes i (Field kind parameter column) → p ≤ length row → n ≤ length (drop p row) →
+  field_covers : (i kind parameter : ℕ) (column : Option ℕ) (p n : ℕ) (z : ℤ) → Has nodes i (Field (record { code = kind; parameter = parameter }) column) → p ≤ length row → n ≤ length (drop p row) →
       ((means kind parameter).sort ≡ Numeric → (means kind parameter).spells z ≡ take n (drop p row)) →
       ((means kind parameter).sort ≡ Unknown → ⊥) → Covers (line i Good p n z ∷ []) p (p + n)
   field_covers i kind parameter column p n z h w fits spelled known = go (means kind parameter).sort refl
@@ -137,7 +137,7 @@ module _ (means : ℕ → ℕ → Meaning) (nodes : List Node) (row : List ℕ) 
 
   -- nodes with others below them, and checks, have no bytes of their own
   inner_quiet : (s : Shape) → Inner s → shape_source means s ≡ nothing
-  inner_quiet (Field kind parameter column) h = absurd h
+  inner_quiet (Field kind column) h = absurd h
   inner_quiet (Mark byte) h = absurd h
   inner_quiet (Sequence child) h = refl
   inner_quiet (Choice child) h = refl

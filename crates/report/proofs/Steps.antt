@@ -23,7 +23,7 @@ use Rattle.report.proofs.Marks.{Stands, IsMark, mark_is, IsFound, found_from}
 
 -- a node with others below it
 abbrev pub Inner : Shape → Type 0
-Inner (Field kind parameter column) = ⊥
+Inner (Field kind column) = ⊥
 Inner (Mark byte) = ⊥
 Inner (Sequence child) = Unit {0}
 Inner (Choice child) = Unit {0}
@@ -32,7 +32,7 @@ Inner (Check relation left right) = ⊥
 
 -- a node that can have a syntax fault
 abbrev pub Faulting : Shape → Type 0
-Faulting (Field kind parameter column) = Unit {0}
+Faulting (Field kind column) = Unit {0}
 Faulting (Mark byte) = Unit {0}
 Faulting (Sequence child) = ⊥
 Faulting (Choice child) = Unit {0}
@@ -43,7 +43,7 @@ Faulting (Check relation left right) = ⊥
 pub record Steps (means : ℕ → ℕ → Meaning) (nodes : List Node) (constants : List ℤ) (row : List ℕ) (P : List Line → ℕ → List Line → ℕ → Type 0) : Type 0 where
   pub none : (pre : List Line) (p : ℕ) → P pre p [] p
   pub join : (pre ls ms : List Line) (p q r : ℕ) → P pre p ls q → P (pre ++ ls) q ms r → P pre p (ls ++ ms) r
-  pub good_field : (i kind parameter : ℕ) (column : Option ℕ) (pre : List Line) (p n : ℕ) (z : ℤ) → Has nodes i (Field kind parameter column) →
+  pub good_field : (i kind parameter : ℕ) (column : Option ℕ) (pre : List Line) (p n : ℕ) (z : ℤ) → Has nodes i (Field (record { code = kind; parameter = parameter }) column) →
       (means kind parameter).reads (drop p row) ≡ Ok (n, z) → P pre p (line i Good p n z ∷ []) (p + n)
   pub good_mark : (i byte : ℕ) (pre : List Line) (p : ℕ) → Has nodes i (Mark byte) → Stands row byte p → P pre p (line i Good p 1 (pos 0) ∷ []) (p + 1)
   pub fault : (i : ℕ) (pre : List Line) (p : ℕ) (z : ℤ) → Faulting (node_at nodes i).shape → P pre p (line i SyntaxFault p 0 z ∷ []) p
@@ -81,7 +81,7 @@ module _ (means : ℕ → ℕ → Meaning) (nodes : List Node) (constants : List
   byte_fits (choice i parts) h = tt
   byte_fits (optional i parts) h = tt
 
-  field_kept : (i kind parameter : ℕ) (column : Option ℕ) (pre : List Line) (p : ℕ) (r : Reading) → Has nodes i (Field kind parameter column) →
+  field_kept : (i kind parameter : ℕ) (column : Option ℕ) (pre : List Line) (p : ℕ) (r : Reading) → Has nodes i (Field (record { code = kind; parameter = parameter }) column) →
       (means kind parameter).reads (drop p row) ≡ r → Kept pre p (leaf_read i pre p r)
   field_kept i kind parameter column pre p (Ok x) h e = S.good_field i kind parameter column pre p x.0 x.1 h e
   field_kept i kind parameter column pre p (Err c) h e = S.fault i pre p (pos (number_of c)) (subst Faulting (sym h) tt)

@@ -8,7 +8,7 @@ use Rattle.report.proofs.Fits.{Has, Fits, AllFit}
 
 module _ (nodes : List Node) (constants : List ℤ) where
   part_fits : (i : ℕ) (s : Shape) (below : Parts) → Has nodes i s → AllFit nodes constants below → Fits nodes constants (part_of constants i s below)
-  part_fits i (Field kind parameter column) below e h = e
+  part_fits i (Field kind column) below e h = e
   part_fits i (Mark byte) below e h = e
   part_fits i (Sequence child) below e h = ((child, e), h)
   part_fits i (Choice child) below e h = ((child, e), h)

@@ -37,7 +37,7 @@ share kept_text n = n
 module _ (means : ℕ → ℕ → Meaning) where
   -- a node that was read
   abbrev pub shape_source : Shape → Source
-  shape_source (Field kind parameter column) = field_source (means kind parameter).sort kind parameter
+  shape_source (Field kind column) = field_source (means kind.code kind.parameter).sort kind.code kind.parameter
   shape_source (Mark byte) = the_byte byte
   shape_source (Sequence child) = nothing
   shape_source (Choice child) = nothing

@@ -14,7 +14,7 @@ Value = ℕ × ℤ
 
 -- the column of a field that has one; no other shape has one
 abbrev pub column_of : Shape → Option ℕ
-column_of (Field kind parameter column) = column
+column_of (Field kind column) = column
 column_of (Mark byte) = None
 column_of (Sequence child) = None
 column_of (Choice child) = None

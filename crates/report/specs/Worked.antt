@@ -1,7 +1,7 @@
 -- The worked examples: cuts, fields, and the rows of an invoice with number, date and amount, commas between.
 use Rattle.std.specs.Prelude.{◌≡◌, ℕ, true, cond, List, [], ◌∷◌, ◌++◌, map, ℤ, pos, negsuc, None, codes, ◌==◌}
 use Rattle.fields.specs.Meanings.{Meaning}
-use Rattle.fields.specs.Kinds.{ascii_kind, ascii_means}
+use Rattle.fields.specs.Kinds.{ascii_means}
 use Rattle.fields.specs.Examples.{ReadExamples}
 use Rattle.rows.specs.Examples.{WorkedCuts}
 use Rattle.layout.specs.Shapes.{sorts}
@@ -12,7 +12,7 @@ use Rattle.report.specs.Reports.{report}
 use Rattle.report.specs.Meets.{meets}
 
 abbrev pub ascii_family : ℕ → ℕ → Meaning
-ascii_family kind parameter = ascii_means (ascii_kind kind parameter) parameter
+ascii_family kind parameter = ascii_means kind parameter
 
 -- the layout file: six nodes and no constants; a sequence, a whole number, a comma, a date, a comma, an amount with two decimals
 abbrev pub invoice_layout : List ℕ
