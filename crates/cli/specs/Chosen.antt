@@ -4,8 +4,8 @@ use Rattle.rows.specs.Rules.{Meaning}
 use Rattle.rows.specs.Newlines.{newline_meaning}
 use Rattle.rows.specs.Widths.{fixed_meaning}
 use Rattle.rows.specs.Samples.{sampled}
-use Rattle.rows.specs.Eithers.{of_either}
-use Rattle.rows.specs.declared.either.Either.{Either}
+use Rattle.either.specs.Either.{either}
+use Rattle.either.specs.declared.Either.{Either}
 use Rattle.rows.specs.declared.newline.Newline.{Newline}
 use Rattle.rows.specs.declared.sample.Sample.{Sample}
 use Rattle.rows.specs.declared.width.FixedWidth.{FixedWidth}
@@ -30,7 +30,7 @@ SampleRange (Some n) = n ≤ 16777216
 
 -- what the rules of the program mean
 abbrev pub means_plain : Either Newline FixedWidth → Meaning
-means_plain = of_either (λ _. newline_meaning) (λ f. fixed_meaning f.width)
+means_plain = either (λ _. newline_meaning) (λ f. fixed_meaning f.width)
 
 abbrev pub means_any : Either (Either Newline FixedWidth) (Sample (Either Newline FixedWidth)) → Meaning
-means_any = of_either means_plain (λ s. sampled s.limit (means_plain s.below))
+means_any = either means_plain (λ s. sampled s.limit (means_plain s.below))

@@ -1,14 +1,14 @@
 -- Families as the words of a command name them, and their kinds in words.
 use Rattle.std.specs.Prelude.{ℕ, ◌-◌, cond, List, Some, None, codes, ◌==◌, nat_le}
-use Rattle.fields.specs.Chosen.{of_either}
-use Rattle.fields.specs.Kinds.{ascii_kind, ascii_means}
+use Rattle.either.specs.Either.{either}
+use Rattle.either.specs.declared.Either.{Either}
+use Rattle.either.specs.declared.Either.TheVariants.{Left, Right}
+use Rattle.fields.specs.Kinds.{ascii_means}
 use Rattle.fields.specs.Octets.{binary_means}
 use Rattle.fields.specs.Meanings.{Meaning}
 use Rattle.fields.specs.Pairs.{pair_means}
 use Rattle.fields.specs.declared.ascii.Ascii.{Ascii}
 use Rattle.fields.specs.declared.binary.Binary.{Binary}
-use Rattle.fields.specs.declared.either.Either.{Either}
-use Rattle.fields.specs.declared.either.Either.TheVariants.{First, Second}
 use Rattle.fields.specs.declared.pair.Pair.{Pair}
 use Rattle.cli.specs.declared.families.FamilyWords.{FamilyWords}
 
@@ -17,11 +17,11 @@ abbrev pub Plain : Type 0
 Plain = Either Ascii Binary
 
 abbrev pub plain_means : Plain → ℕ → ℕ → Meaning
-plain_means = of_either (λ _ k p. ascii_means (ascii_kind k p) p) (λ _. binary_means)
+plain_means = either (λ _. ascii_means) (λ _. binary_means)
 
 -- a plain family, or a pair of two
 abbrev pub family_means : Either Plain (Pair Plain Plain) → ℕ → ℕ → Meaning
-family_means = of_either plain_means (λ s. pair_means (plain_means s.first) (plain_means s.second))
+family_means = either plain_means (λ s. pair_means (plain_means s.first) (plain_means s.second))
 
 abbrev pub words_mean : FamilyWords → ℕ → ℕ → Meaning
 words_mean w = elim w.second [ Some f ↦ pair_means (plain_means w.first) (plain_means f) | None ↦ plain_means w.first ]
@@ -33,8 +33,8 @@ abbrev pub binary_word : ℕ → List ℕ
 binary_word k = cond (k == 1) (codes "unsigned") (cond (k == 2) (codes "signed") (cond (k == 3) (codes "bytes") (codes "field")))
 
 abbrev pub kind_word : Plain → ℕ → List ℕ
-kind_word (First a) k = ascii_word k
-kind_word (Second b) k = binary_word k
+kind_word (Left a) k = ascii_word k
+kind_word (Right b) k = binary_word k
 
 -- in a pair, kinds 32 and above are those of the second family less 32
 abbrev pub kind_name : FamilyWords → ℕ → List ℕ

@@ -2,18 +2,13 @@
 use Rattle.std.specs.Prelude.{ℕ, ◌+◌, Bool, false, cond, List, [], ◌∷◌, ◌++◌, length, Some, None, codes, decimal, Option, ◌==◌}
 use Rattle.rows.specs.Cuts.{RowAt, TailAt, Cut}
 use Rattle.rows.specs.Frames.{measured}
-use Rattle.rows.specs.Words.{unended, last_unended}
+use Rattle.rows.specs.Words.{word, unended, last_unended}
 use Rattle.rows.specs.declared.piece.Mark.{Mark}
-use Rattle.rows.specs.declared.piece.Mark.TheVariants.{Ended, Unended}
 use Rattle.cli.specs.declared.listing.Listing.{Listing}
 use Rattle.cli.specs.declared.listing.Stage.{Stage}
 use Rattle.cli.specs.declared.listing.Stage.TheVariants.{Rows, Summary, Notice, Done}
 use Rattle.cli.specs.declared.texts.Line.{Line}
 use Rattle.cli.specs.declared.texts.Line.TheVariants.{Row as row_of, Tail as tail_of, Summary as summary_of, Notice as notice_of}
-
-abbrev pub word : Mark → List ℕ
-word Ended = codes "ended"
-word Unended = codes "unended"
 
 abbrev pub row_line : ℕ → ℕ → ℕ → Mark → List ℕ
 row_line number start len mark = codes "row " ++ (decimal number ++ (codes ": start " ++ (decimal start ++ (codes ", length " ++ (decimal len ++ (codes ", " ++ word mark))))))

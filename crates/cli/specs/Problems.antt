@@ -1,16 +1,8 @@
 -- The line that says what stopped a command.
 use Rattle.std.specs.Prelude.{ℕ, List, ◌++◌, codes, decimal}
-use Rattle.rows.specs.Refusals.{number_of}
-use Rattle.rows.specs.declared.refusal.Refusal.{Refusal}
-use Rattle.rows.specs.declared.refusal.Refusal.TheVariants.{FileTooLong, OutOfRange, BufferTooShort}
+use Rattle.rows.specs.Refusals.{number_of, reason}
 use Rattle.cli.specs.declared.problems.Problem.{Problem}
 use Rattle.cli.specs.declared.problems.Problem.TheVariants.{BadWords, NoCommand, WrongWords, NoRule, NoFamily, NoNumber, UnknownKind, Refused, Unreadable}
-
--- what a refusal means
-abbrev pub reason : Refusal → List ℕ
-reason FileTooLong = codes "a file has more than 16777216 bytes"
-reason OutOfRange = codes "a width is not 1 to 4096, or a sample is not 0 to 16777216"
-reason BufferTooShort = codes "a buffer is too short"
 
 abbrev pub problem_line : Problem → List ℕ
 problem_line (BadWords r) = codes "neskvaru: cannot read the words of the command: " ++ r.now

@@ -4,9 +4,9 @@ ghost use Rattle.fields.specs.Meanings.{Meaning};
 ghost use Rattle.fields.specs.Pairs.{pair_means};
 ghost use Rattle.cli.specs.Kinds.{family_means, words_mean, ascii_word, binary_word, kind_word, kind_name};
 
+use either::{Either, Left, Right};
 use fields::ascii::Ascii;
 use fields::binary::Binary;
-use fields::either::Either;
 use fields::pair::Pair;
 use std::str::Split;
 
@@ -28,8 +28,8 @@ pub fn chosen_family(words: FamilyWords) -> Family
     ensures { family_means result ≡ words_mean words }
 {
     match words.second {
-        Some(second) => Either::Second(Pair::new(words.first, second)),
-        None => Either::First(words.first),
+        Some(second) => Right(Pair::new(words.first, second)),
+        None => Left(words.first),
     }
 }
 
@@ -41,8 +41,8 @@ pub fn nested_pairs()
 // The plain family that one word names.
 fn plain_family(word: &str) -> Option<PlainFamily> {
     match word {
-        "ascii" => Some(Either::First(Ascii)),
-        "binary" => Some(Either::Second(Binary)),
+        "ascii" => Some(Left(Ascii)),
+        "binary" => Some(Right(Binary)),
         _ => None,
     }
 }
@@ -88,8 +88,8 @@ pub fn kind_word(family: PlainFamily, kind: u8) -> &'static str
     ensures { result.now ≡ kind_word family kind }
 {
     match family {
-        Either::First(_) => ascii_word(kind),
-        Either::Second(_) => binary_word(kind),
+        Left(_) => ascii_word(kind),
+        Right(_) => binary_word(kind),
     }
 }
 

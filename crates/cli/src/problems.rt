@@ -1,6 +1,6 @@
 // What stops a command, and the line that says so.
-ghost use Rattle.std.specs.Prelude.{◌≡◌, Some};
-ghost use Rattle.cli.specs.Problems.{reason, problem_line};
+ghost use Rattle.std.specs.Prelude.{Some};
+ghost use Rattle.cli.specs.Problems.{problem_line};
 
 use rows::refusal::Refusal;
 use std::fmt;
@@ -20,17 +20,6 @@ pub enum Problem<'a> {
     Refused(Refusal, &'a str),
     // a file's name, and the reason
     Unreadable(&'a str, &'a str),
-}
-
-// What a refusal means.
-pub fn reason_text(refusal: Refusal) -> &'static str
-    ensures { result.now ≡ reason refusal }
-{
-    match refusal {
-        Refusal::FileTooLong => "a file has more than 16777216 bytes",
-        Refusal::OutOfRange => "a width is not 1 to 4096, or a sample is not 0 to 16777216",
-        Refusal::BufferTooShort => "a buffer is too short",
-    }
 }
 
 // The line that tells a problem.
@@ -68,8 +57,8 @@ impl fmt::Display for Problem<'_> {
                 "neskvaru: the family '{family}' does not know this kind with this parameter"
             ),
             Problem::Refused(refusal, what) => {
-                let (number, reason) = (refusal.number(), reason_text(refusal));
-                write!(f, "neskvaru: refused, number {number}: {reason}: '{what}'")
+                let number = refusal.number();
+                write!(f, "neskvaru: refused, number {number}: {refusal}: '{what}'")
             }
             Problem::Unreadable(name, reason) => {
                 write!(f, "neskvaru: cannot read the file '{name}': {reason}")

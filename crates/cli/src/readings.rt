@@ -1,6 +1,6 @@
 // What reading a field gives, in words.
-ghost use Rattle.std.specs.Prelude.{◌≡◌, Some};
-ghost use Rattle.cli.specs.Readings.{cause_word, reading_line};
+ghost use Rattle.std.specs.Prelude.{Some};
+ghost use Rattle.cli.specs.Readings.{reading_line};
 
 use fields::cause::Cause;
 use std::fmt;
@@ -28,18 +28,6 @@ pub enum Reading<'a> {
     },
 }
 
-// A cause in words.
-pub fn cause_words(cause: Cause) -> &'static str
-    ensures { result.now ≡ cause_word cause }
-{
-    match cause {
-        Cause::Short => "the bytes end too soon",
-        Cause::Form => "the bytes have another form",
-        Cause::Range => "too large, or no such date",
-        Cause::SecondSpelling => "a second spelling of the number",
-    }
-}
-
 // The line that tells a reading.
 impl fmt::Display for Reading<'_> {
     ghost output = { λ r. Some (reading_line r) };
@@ -57,8 +45,7 @@ impl fmt::Display for Reading<'_> {
             }
             Reading::Fault { name, cause } => {
                 let number = cause.number();
-                let why = cause_words(cause);
-                write!(f, "{name}: cause {number}, {why}")
+                write!(f, "{name}: cause {number}, {cause}")
             }
         }
     }

@@ -6,7 +6,7 @@ ghost use Rattle.rows.specs.declared.refusal.Refusal.TheVariants.{OutOfRange};
 ghost use Rattle.cli.specs.Chosen.{plain_meaning, PlainRange, chosen_meaning, SampleRange, means_plain, means_any};
 
 use crate::numbers::number_of;
-use rows::either::Either;
+use either::{Either, Left, Right};
 use rows::newline::Newline;
 use rows::refusal::Refusal;
 use rows::sample::{LARGEST, Sample};
@@ -36,8 +36,8 @@ pub fn plain_rule(width: Option<usize>) -> Result<PlainRule, Refusal>
     ensures { MatchResult result (λ p. means_plain p ≡ plain_meaning width) (λ e. (e ≡ OutOfRange) × (PlainRange width → ⊥)) }
 {
     match width {
-        Some(w) => Ok(Either::Second(FixedWidth::new(w)?)),
-        None => Ok(Either::First(Newline::new())),
+        Some(w) => Ok(Right(FixedWidth::new(w)?)),
+        None => Ok(Left(Newline::new())),
     }
 }
 
@@ -46,8 +46,8 @@ pub fn any_rule(first: Option<usize>, plain: PlainRule) -> Result<AnyRule, Refus
     ensures { MatchResult result (λ a. means_any a ≡ chosen_meaning first (means_plain plain)) (λ e. (e ≡ OutOfRange) × (SampleRange first → ⊥)) }
 {
     match first {
-        Some(n) => Ok(Either::Second(Sample::new(n, plain)?)),
-        None => Ok(Either::First(plain)),
+        Some(n) => Ok(Right(Sample::new(n, plain)?)),
+        None => Ok(Left(plain)),
     }
 }
 

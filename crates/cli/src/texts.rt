@@ -1,19 +1,9 @@
 // The lines of a listing, and how they are written.
-ghost use Rattle.std.specs.Prelude.{◌≡◌, Some};
-ghost use Rattle.cli.specs.Listings.{word, plural, line_text};
+ghost use Rattle.std.specs.Prelude.{Some};
+ghost use Rattle.cli.specs.Listings.{plural, line_text};
 
 use rows::piece::Mark;
 use std::fmt;
-
-// How a mark is called.
-pub fn mark_word(mark: Mark) -> &'static str
-    ensures { result.now ≡ word mark }
-{
-    match mark {
-        Mark::Ended => "ended",
-        Mark::Unended => "unended",
-    }
-}
 
 // One line of a listing.
 #[derive(Clone, Copy)]
@@ -51,10 +41,7 @@ impl fmt::Display for Line {
                 start,
                 length,
                 mark,
-            } => {
-                let word = mark_word(mark);
-                write!(f, "row {number}: start {start}, length {length}, {word}")
-            }
+            } => write!(f, "row {number}: start {start}, length {length}, {mark}"),
             Line::Tail { start, length } => {
                 // what is said of a tail that is not empty
                 let note = if length == 0 {

@@ -5,7 +5,7 @@ use cli::numbers::number_of;
 use cli::problems::Problem;
 use cli::readings::Reading;
 use fields::cause::Sort;
-use fields::family::Family;
+use fields::family::{Family, Kind};
 use fields::start::read_start;
 
 // A number from a word, if it is at most so large.
@@ -15,10 +15,10 @@ fn small_number(word: &str, most: u8) -> Option<u8> {
 }
 
 // What reading the text as a field of a kind gives; `name` is what the kind is called.
-fn reading<'a, F: Family>(family: &F, name: &'a str, kind: u8, p: u8, text: &str) -> Reading<'a> {
+fn reading<'a, F: Family>(family: &F, name: &'a str, kind: Kind, text: &str) -> Reading<'a> {
     let size = text.len();
-    match read_start(family, kind, p, text.as_bytes()) {
-        Ok((length, number)) => match family.sort(kind, p) {
+    match read_start(family, kind, text.as_bytes()) {
+        Ok((length, number)) => match family.sort(kind) {
             Sort::Kept => Reading::Kept { name, length, size },
             _ => Reading::Number {
                 name,
@@ -40,12 +40,14 @@ pub fn read_field<'a>(
     text: &str,
 ) -> Result<(), Failure<'a>> {
     let words = family_of(family).ok_or(Problem::NoFamily(family))?;
-    let k = small_number(kind, 63).ok_or(Problem::NoNumber(kind))?;
-    let parameter = small_number(p, 255).ok_or(Problem::NoNumber(p))?;
+    let kind = Kind {
+        code: small_number(kind, 63).ok_or(Problem::NoNumber(kind))?,
+        parameter: small_number(p, 255).ok_or(Problem::NoNumber(p))?,
+    };
     let chosen = chosen_family(words);
-    if let Sort::Unknown = chosen.sort(k, parameter) {
+    if chosen.sort(kind) == Sort::Unknown {
         return Err(Problem::UnknownKind(family).into());
     }
-    rt.println(reading(&chosen, words.kind_name(k), k, parameter, text))?;
+    rt.println(reading(&chosen, words.kind_name(kind.code), kind, text))?;
     Ok(())
 }
