@@ -23,7 +23,7 @@ pub struct FamilyWords {
     pub second: Option<PlainFamily>,
 }
 
-// The family that the words stand for.
+// The family that the words stand for. (No `From`: `Family::from` would name the trait of that name where it is called.)
 pub fn chosen_family(words: FamilyWords) -> Family
     ensures { family_means result ≡ words_mean words }
 {
@@ -59,6 +59,7 @@ fn one_family(words: &mut Split<'_, char>) -> Option<PlainFamily> {
         }
         let family = plain_family(word)?;
         first = first.or(Some(family));
+        // it is above 0 here, which plain subtraction would need an invariant for
         wanted = wanted.saturating_sub(1);
         if wanted == 0 {
             return first;
@@ -83,7 +84,7 @@ pub fn family_of(words: &str) -> Option<FamilyWords> {
     words.next().is_none().then_some(family)
 }
 
-// What a kind of a plain family is called.
+// What a kind of a plain family is called; a kind's number is the family's own, and its name does not hang on the parameter.
 pub fn kind_word(family: PlainFamily, kind: u8) -> &'static str
     ensures { result.now ≡ kind_word family kind }
 {

@@ -11,7 +11,7 @@ use rows::piece::{Mark, Piece};
 use rows::refusal::Refusal;
 use rows::rule::RowRule;
 
-// What comes next.
+// What comes next. The lines are handed out one at a time, so where the listing is has to be remembered between them: a chain of iterators would have to own the rule twice, for its rows and for its tail.
 #[derive(Clone, Copy)]
 enum Stage {
     // the row behind those that were told, or the tail; `last` is the mark of the last of them
@@ -51,6 +51,7 @@ impl<'f, R: RowRule + Drop> Listing<'f, R> {
     {
         match self.rule.next(self.file) {
             Piece::Row { start, bytes, mark } => {
+                // no file has so many rows; plain addition would need that as an invariant over the rule
                 let number = told.saturating_add(1);
                 self.stage = Stage::Rows {
                     told: number,

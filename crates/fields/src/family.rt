@@ -8,7 +8,7 @@ ghost use Rattle.fields.specs.Buffers.{written};
 use crate::cause::{Cause, Sort};
 use crate::cursor::Cursor;
 
-// A kind with its parameter, as a layout gives them by numbers: what they mean is the family's.
+// A kind with its parameter. Both stay numbers, as a layout has them: which there are, and what they mean, is the family's.
 #[derive(Clone, Copy, PartialEq, Eq, Debug)]
 pub struct Kind {
     pub code: u8,

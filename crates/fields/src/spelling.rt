@@ -16,6 +16,7 @@ pub(crate) fn add(text: &mut Spelling, bytes: &[u8])
     requires { length text.old.items + length bytes.now ≤ 26 }
     ensures { text.new.items ≡ text.old.items ++ bytes.now }
 {
+    // there is room; try_extend_from_slice would answer whether there was
     for byte in bytes {
         text.push(*byte);
     }

@@ -15,6 +15,7 @@ pub(crate) fn is_led(bytes: &[u8]) -> bool
     run(bytes) > 1 && bytes.first() == Some(&b'0')
 }
 
+// Reads the digits, and puts the place back where they are no whole number.
 pub(crate) fn read_whole(cursor: &mut Cursor) -> Result<(usize, i64), Cause>
     ensures answer { result ≡ whole.reads (unread cursor.old) }
     ensures place { Moved result cursor.old cursor.new }

@@ -20,7 +20,7 @@ pub(crate) struct Header {
 }
 
 impl Header {
-    // The counts of a file, if they are in range and its length is theirs.
+    // The counts of a file, if they are in range and its length is theirs. (None stands for one refusal, which the one caller names.)
     pub(crate) fn of(bytes: &[u8]) -> Option<Header>
         ensures { MatchOption result (wrong_size 200 64 bytes.now ≡ true) (λ h. Sized bytes.now h.nodes h.constants) }
     {

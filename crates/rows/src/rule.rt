@@ -25,7 +25,7 @@ pub trait RowRule {
     fn next<'f>(&mut self, file: &'f [u8]) -> Piece<'f>
         ensures { Asked file.now (told result) (means self.old) (means self.new) (ahead self.old) (ahead self.new) };
 
-    // Whether the rule carries a row under a mark.
+    // Whether the rule carries a row under a mark. (A row and its mark stay two arguments: a frame is made of a row that lies in a buffer, where there is no slice to put beside the mark.)
     fn carries(&self, row: &[u8], mark: Mark) -> bool
         ensures { result ≡ (means self.now).carries row.now mark };
 
@@ -33,7 +33,7 @@ pub trait RowRule {
     fn frame_length(&self, row: &[u8], mark: Mark) -> usize
         ensures { result ≡ measured (length ((means self.now).frame row.now mark)) };
 
-    // Turns the row in a buffer's first `length` bytes into its frame, at the buffer's beginning, and answers the frame's length.
+    // Turns the row in a buffer's first `length` bytes into its frame, at the buffer's beginning, and answers the frame's length. It works in place: the caller's buffer is the only memory.
     fn frame_in(&self, buffer: &mut [u8], length: usize, mark: Mark) -> Result<usize, Refusal>
         ensures { (result, buffer.new) ≡ framed (λ row. (means self.now).frame row mark) length buffer.old };
 

@@ -57,6 +57,7 @@ impl<R> Sample<R> {
     }
 }
 
+// (`sample_ahead` takes the parts of a sample one by one: a definition over the struct would import the module that its ghost field needs in a circle.)
 impl<R: RowRule> Sample<R> {
     // The next row below, if one more is wanted and there is one.
     fn row_below<'f>(&mut self, file: &'f [u8]) -> Option<Piece<'f>>

@@ -30,7 +30,7 @@ const UNREAD: NodeRecord = NodeRecord {
     rest: 0,
 };
 
-// Puts the nodes of judged records in the place of a table's.
+// Puts the nodes of judged records in the place of a table's. There is room, so that pushing takes no memory and cannot fail; `extend` would answer whether it did.
 fn put_nodes(out: &mut Vec<Node>, records: &[NodeRecord])
     requires { length records.now ≤ vec_capacity out.old }
     ensures items { out.new.items ≡ map node_of records.now }

@@ -22,7 +22,7 @@ impl Layout {
         self.constants.as_slice()
     }
 
-    // The node of a number, from 1; past the table a blank mark. (0 is taken for 1.)
+    // The node of a number, from 1; past the table a blank mark. (0 is taken for 1: a type without 0 would ask more of callers.)
     pub fn node(&self, number: u16) -> Node
         ensures { result ≡ node_at self.now.nodes.items number }
     {
