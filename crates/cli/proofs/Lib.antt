@@ -1,4 +1,4 @@
 -- Lemmas of the program's words.
-pub mod Counters
+pub mod Closing
 pub mod Digits
 pub mod Nested

@@ -5,3 +5,4 @@ pub mod Listings
 pub mod Numbers
 pub mod Problems
 pub mod Readings
+pub mod Stages

@@ -14,7 +14,7 @@ use std::str::Split;
 pub type PlainFamily = Either<Ascii, Binary>;
 
 // A plain family, or a pair of two.
-pub type Family = Either<PlainFamily, Pair<PlainFamily, PlainFamily>>;
+pub type AnyFamily = Either<PlainFamily, Pair<PlainFamily, PlainFamily>>;
 
 // What the words say: one plain family, or the two whose kinds a pair reaches.
 #[derive(Clone, Copy)]
@@ -23,13 +23,15 @@ pub struct FamilyWords {
     pub second: Option<PlainFamily>,
 }
 
-// The family that the words stand for. (No `From`: `Family::from` would name the trait of that name where it is called.)
-pub fn chosen_family(words: FamilyWords) -> Family
-    ensures { family_means result ≡ words_mean words }
-{
-    match words.second {
-        Some(second) => Right(Pair::new(words.first, second)),
-        None => Left(words.first),
+// The family that the words stand for.
+impl From<FamilyWords> for AnyFamily {
+    ghost from_gives = { λ words family. family_means family ≡ words_mean words };
+
+    fn from(words: FamilyWords) -> AnyFamily {
+        match words.second {
+            Some(second) => Right(Pair::new(words.first, second)),
+            None => Left(words.first),
+        }
     }
 }
 
@@ -68,7 +70,7 @@ fn one_family(words: &mut Split<'_, char>) -> Option<PlainFamily> {
     None
 }
 
-// What the words `ascii`, `binary` or `pair:FAMILY:FAMILY` say, or none.
+// What the words `ascii`, `binary` or `pair:FAMILY:FAMILY` say, or none. (No `FromStr`: there is one fault, and the caller tells it with the words.)
 pub fn family_of(words: &str) -> Option<FamilyWords> {
     let mut words = words.split(':');
     let family = match words.next()? {

@@ -11,7 +11,7 @@ fn one_more(value: usize, byte: u8) -> Option<usize>
     Some(value.saturating_mul(10).saturating_add(digit as usize))
 }
 
-// The number that some digits stand for, if there are any and nothing else; one too large for 64 bits is told as the greatest.
+// The number that some digits stand for, if there are any and nothing else; one too large for 64 bits is told as the greatest. (`parse` also takes a plus, and refuses what is too large.)
 pub fn number_of(digits: &str) -> Option<usize>
     ensures { result ≡ number_in digits.now }
 {

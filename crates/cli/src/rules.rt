@@ -3,6 +3,7 @@ ghost use Rattle.std.specs.Prelude.{◌≡◌, MatchResult};
 ghost use Rattle.rows.specs.Rules.{Meaning};
 ghost use Rattle.rows.specs.Samples.{sampled};
 ghost use Rattle.rows.specs.declared.refusal.Refusal.TheVariants.{OutOfRange};
+ghost use Rattle.cli.specs.declared.rules.RuleFault.TheVariants.{Refused};
 ghost use Rattle.cli.specs.Chosen.{plain_meaning, PlainRange, chosen_meaning, SampleRange, means_plain, means_any};
 
 use crate::numbers::number_of;
@@ -26,6 +27,8 @@ pub enum RuleFault {
 }
 
 impl From<Refusal> for RuleFault {
+    ghost from_gives = { λ refusal fault. fault ≡ Refused refusal };
+
     fn from(refusal: Refusal) -> RuleFault {
         RuleFault::Refused(refusal)
     }
@@ -72,7 +75,7 @@ fn width_of(words: &str) -> Result<Option<usize>, RuleFault> {
     Ok(Some(width))
 }
 
-// The rule that the words `newline`, `fixed:W` or `sample:N:RULE` stand for. The rule below a sample is made first.
+// The rule that the words `newline`, `fixed:W` or `sample:N:RULE` stand for. The rule below a sample is made first. (No `FromStr`: the type of a rule is the library's.)
 pub fn rule_of(words: &str) -> Result<AnyRule, RuleFault> {
     let mut rest = words;
     let mut first = None;

@@ -7,7 +7,7 @@ use std::fmt;
 
 // One line of a listing.
 #[derive(Clone, Copy)]
-pub enum Line {
+pub enum ListingLine {
     // a row: its number, where it starts, how long it is, and how it ends
     Row {
         number: usize,
@@ -31,18 +31,18 @@ pub enum Line {
     },
 }
 
-impl fmt::Display for Line {
+impl fmt::Display for ListingLine {
     ghost output = { λ line. Some (line_text line) };
 
     fn fmt<W: fmt::Write>(&self, f: &mut fmt::Formatter<W>) -> fmt::Result {
         match *self {
-            Line::Row {
+            ListingLine::Row {
                 number,
                 start,
                 length,
                 mark,
             } => write!(f, "row {number}: start {start}, length {length}, {mark}"),
-            Line::Tail { start, length } => {
+            ListingLine::Tail { start, length } => {
                 // what is said of a tail that is not empty
                 let note = if length == 0 {
                     ""
@@ -51,7 +51,7 @@ impl fmt::Display for Line {
                 };
                 write!(f, "tail: start {start}, length {length}{note}")
             }
-            Line::Summary { rows, bytes } => {
+            ListingLine::Summary { rows, bytes } => {
                 let listed = Plural {
                     count: rows,
                     noun: "row",
@@ -62,7 +62,7 @@ impl fmt::Display for Line {
                 };
                 write!(f, "{listed}; the file has {size}")
             }
-            Line::Notice { number } => write!(
+            ListingLine::Notice { number } => write!(
                 f,
                 "notice: the closing row, row {number}, has no newline at its end; it is a row like the others and is counted"
             ),

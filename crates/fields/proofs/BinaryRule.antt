@@ -1,5 +1,5 @@
 -- A binary number is read exactly where its bytes stand.
-use Rattle.std.proofs.Common.{◌≡◌, ℕ, suc, ◌-◌, ◌*◌, ◌^◌, ◌<◌, ◌≤◌, ltb, List, ◌++◌, length, take, ℤ, pos, negsuc, nat_abs, Ok, sym, refl, ap, ◌∙◌, subst, arith, length-append}
+use Rattle.std.proofs.Common.{◌≡◌, ℕ, suc, ◌-◌, ◌*◌, ◌^◌, ◌<◌, ◌≤◌, ltb, List, ◌++◌, length, take, ℤ, pos, negsuc, nat_abs, Ok, sym, refl, ap, ◌∙◌, subst, arith, length-append, ◌+◌}
 use Rattle.std.proofs.lemmas.List.{take_at, length-take-le}
 use Rattle.std.proofs.lemmas.Bool.{ltb-true, ltb-false, lt-ltb, le-ltb, cond-true, cond-false, cond_both}
 use Rattle.fields.specs.Meanings.{Reading}
@@ -15,7 +15,7 @@ use Rattle.fields.proofs.Stand.{tried_inv, stands}
 big_before : (p n : ℕ) (rest : List ℕ) → n < 256 ^ p → (p ≤ length (octets p n ++ rest)) × (big (take p (octets p n ++ rest)) ≡ n)
 big_before p n rest h = (
   omega (arith, length-append (octets p n) rest, length_octets p n),
-  ap big (take_at (octets p n) rest p (length_octets p n)) ∙ number_places 256 0 (omega arith) p n h,
+  ap big (take_at (octets p n) rest p (length_octets p n)) ∙ number_places 256 (λ b. b - 0) (λ d. 0 + d) (λ d k. omega arith) (omega arith) p n h,
 )
 
 -- what was read is below the power of 256

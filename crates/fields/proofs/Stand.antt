@@ -1,5 +1,5 @@
 -- What a good reading tells of its tests, and runs of digits before other bytes.
-use Rattle.std.proofs.Common.{◌≡◌, ℕ, zero, suc, ◌+◌, ◌/◌, ◌%◌, ◌^◌, ◌<◌, Bool, true, false, cond, List, [], ◌∷◌, ◌++◌, length, drop, ℤ, Ok, sym, refl, ap, ◌∙◌, arith}
+use Rattle.std.proofs.Common.{◌≡◌, ℕ, zero, suc, ◌+◌, ◌/◌, ◌%◌, ◌^◌, ◌<◌, Bool, true, false, cond, List, [], ◌∷◌, ◌++◌, length, drop, ℤ, Ok, sym, refl, ap, ◌∙◌, arith, ◌-◌}
 use Rattle.std.proofs.lemmas.List.{take-append-drop, length-take-le}
 use Rattle.fields.specs.declared.cause.Cause.{Cause}
 use Rattle.fields.specs.declared.cause.Sort.TheVariants.{Numeric}
@@ -8,9 +8,8 @@ use Rattle.fields.specs.Laws.{Bytes, Lawful}
 use Rattle.fields.specs.Digits.{is_digit, run, AreDigits, value, padded}
 use Rattle.fields.specs.Spellings.{Stands}
 use Rattle.fields.specs.Fairs.{Passed}
-use Rattle.fields.specs.Runs.{tells, digit_true}
+use Rattle.fields.specs.Runs.{tells, digit_true, length_padded}
 use Rattle.fields.specs.PlaceValues.{number_places}
-use Rattle.fields.specs.Runs.{length_padded}
 
 refuse_inv : (t : Bool) (c : Cause) (r : Reading) (y : ℕ × ℤ) → refuse t c r ≡ Ok y → (t ≡ false) × (r ≡ Ok y)
 refuse_inv true c r y e = let z : ◌≡◌ {A = ℕ} 0 1 = cc in absurd (omega arith)
@@ -62,4 +61,4 @@ pure_padded (suc w) n =
     ∙ omega (arith, length_padded w (n / 10), length_padded (suc w) n)
 
 pub value_padded : (w n : ℕ) → n < 10 ^ w → value (padded w n) ≡ n
-value_padded w n h = number_places 10 48 (omega arith) w n h
+value_padded w n h = number_places 10 (λ b. b - 48) (λ d. 48 + d) (λ d k. omega arith) (omega arith) w n h

@@ -1,9 +1,9 @@
 -- An amount is spelled with the bytes that it was read from.
-use Rattle.std.specs.Prelude.{◌≡◌, ℕ, zero, suc, ◌+◌, ◌-◌, ◌*◌, ◌/◌, ◌%◌, ◌^◌, ◌<◌, ◌≤◌, Bool, true, false, cond, ◌&&◌, ◌||◌, List, [], ◌∷◌, ◌++◌, length, take, drop, ℤ, Ok, Err, decimal, ◌==◌, ◌≢◌, nat_lt, slice_index, unsigned_abs, refl}
+use Rattle.std.specs.Prelude.{◌≡◌, ℕ, zero, suc, ◌+◌, ◌-◌, ◌*◌, ◌/◌, ◌%◌, ◌^◌, ◌<◌, ◌≤◌, Bool, true, false, cond, ◌&&◌, ◌||◌, List, [], ◌∷◌, ◌++◌, length, take, drop, ℤ, Ok, Err, decimal, ◌==◌, ◌≢◌, nat_lt, slice_index, unsigned_abs, refl, nat_eq}
 use Rattle.std.proofs.Common.{sym, ap, ◌∙◌, mul-le-mul_right, suc-mul, arith, length-append, pow-add, take-add}
 use Rattle.std.proofs.Math.Nat.{pow-le-pow_right, one-le-pow}
 use Rattle.std.proofs.lemmas.List.{length-take-le, length-drop}
-use Rattle.std.proofs.lemmas.Bool.{eqb-true, eqb-false, ltb-true, ltb-false, and_parts, or_parts, and_from, not-false, not_from_true, not_from_false, ne_eqb, lt-ltb, le-ltb}
+use Rattle.std.proofs.lemmas.Bool.{eqb-true, eqb-false, ltb-true, ltb-false, and_parts, or_parts, and_from, not-false, not_from_true, not_from_false, ne_eqb, lt-ltb, le-ltb, eq-eqb}
 use Rattle.std.proofs.lemmas.Bool.Decides.{nat_tests}
 use Rattle.fields.specs.declared.cause.Cause.TheVariants.{Form, Range, SecondSpelling}
 use Rattle.fields.specs.declared.cause.Sort.TheVariants.{Numeric}
@@ -14,9 +14,8 @@ use Rattle.fields.specs.Wholes.{leads}
 use Rattle.fields.specs.Amounts.{minus, sign, body, rest, pointed, point_len, formed, signed, units, amount_tests, amount_gives, amount_spells, amount, minus_of, point_of}
 use Rattle.fields.specs.PlaceValues.{joined_front, joined_back}
 use Rattle.fields.specs.Fairs.{kind_lawful, refused, good}
-use Rattle.fields.specs.Runs.{run_le, run_take, value_take, padded_value}
+use Rattle.fields.specs.Runs.{run_le, run_take, value_take, padded_value, length_padded}
 use Rattle.fields.specs.WholeLaw.{run_decimal}
-use Rattle.fields.specs.Runs.{length_padded}
 
 pub pow_pos : (p : ℕ) → 0 < 10 ^ p
 pow_pos p = omega (arith, one-le-pow p 10 (omega arith))
@@ -39,6 +38,18 @@ pointed_len zero bs h = omega arith
 pointed_len (suc p) bs h =
     let t = and_parts (slice_index bs 0 == 46) (run (drop 1 bs) == suc p) h in
     omega (arith, eqb-true _ _ t.1, run_le (drop 1 bs), length-drop 1 bs)
+
+pub point_is : (p r : ℕ) (bs : List ℕ) → (p ≢ 0) → slice_index bs 0 ≡ 46 → r ≡ run (drop 1 bs) → (r == p) ≡ pointed p bs
+point_is zero r bs z h e = absurd (z refl)
+point_is (suc p) r bs z h e = ap (λ k. nat_eq k (suc p)) e ∙ ap (λ t. t && run (drop 1 bs) == suc p) (sym (eq-eqb (slice_index bs 0) 46 h))
+
+pub point_len_lem : (p : ℕ) → (p ≢ 0) → point_len p ≡ 1 + p
+point_len_lem zero z = absurd (z refl)
+point_len_lem (suc p) z = omega arith
+
+pub point_none : (p : ℕ) (bs : List ℕ) → p ≡ 0 → (pointed p bs ≡ true) × (0 ≡ value (take p (drop 1 bs))) × (point_len p ≡ 0)
+point_none zero bs z = (refl, refl, refl)
+point_none (suc p) bs z = absurd (omega arith)
 
 pub pointed_run : (p : ℕ) (bs : List ℕ) → pointed p bs ≡ true → p ≤ run (drop 1 bs)
 pointed_run zero bs h = omega arith

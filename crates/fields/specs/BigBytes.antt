@@ -1,5 +1,5 @@
 -- Numbers of a fixed count of bytes are written with the bytes that they were read from.
-use Rattle.std.specs.Prelude.{◌≡◌, ℕ, suc, ◌-◌, ◌*◌, ◌^◌, ◌<◌, ◌≤◌, Bool, true, ◌&&◌, List, [], ◌∷◌, length, take, pos, negsuc, ◌==◌, nat_le, nat_lt, unsigned_abs, refl}
+use Rattle.std.specs.Prelude.{◌≡◌, ℕ, suc, ◌-◌, ◌*◌, ◌^◌, ◌<◌, ◌≤◌, Bool, true, ◌&&◌, List, [], ◌∷◌, length, take, pos, negsuc, ◌==◌, nat_le, nat_lt, unsigned_abs, refl, ◌+◌}
 use Rattle.std.proofs.Common.{sym, ap, subst, ◌∙◌, arith}
 use Rattle.std.proofs.Math.Nat.{pow-le-pow_right}
 use Rattle.std.proofs.lemmas.List.{length-take-le}
@@ -7,26 +7,26 @@ use Rattle.std.proofs.lemmas.Bool.{ltb-false, leb-true, and_parts, cond_both}
 use Rattle.fields.specs.declared.cause.Sort.TheVariants.{Numeric, Kept}
 use Rattle.fields.specs.Laws.{Bytes, Lawful}
 use Rattle.fields.specs.Octets.{big, octets, twos, of_twos, lacking, unsigned, complement, stored, few, binary_means}
-use Rattle.fields.specs.PlaceValues.{Each, each_take as take_each, number_small, places_number, length_places}
+use Rattle.fields.specs.PlaceValues.{EachFrom, each_take as take_each, number_small, places_number, length_places}
 use Rattle.fields.specs.Fairs.{kind_lawful, unknown_lawful}
 
 -- every one is a byte, element by element
 abbrev pub Octets : List ℕ → Type 0
-Octets bs = Each 256 0 bs
+Octets bs = EachFrom 256 0 bs
 
 pub each_from : (bs : List ℕ) → Bytes bs → Octets bs
 each_from [] h = tt
 each_from (b ∷ bs) h = ((omega (arith, h 0), omega arith), each_from bs (λ i. h (suc i)))
 
 pub each_take : (n : ℕ) (bs : List ℕ) → Octets bs → Octets (take n bs)
-each_take n bs h = take_each 256 0 n bs h
+each_take n bs h = take_each 256 (λ b. b - 0) (λ d. 0 + d) n bs h
 
 -- below 256 to the power of their count
 pub big_small : (p : ℕ) (bs : List ℕ) → Octets bs → length bs ≡ p → big bs < 256 ^ p
-big_small p bs h e = subst (λ k. big bs < 256 ^ k) e (number_small 256 0 bs h)
+big_small p bs h e = subst (λ k. big bs < 256 ^ k) e (number_small 256 (λ b. b - 0) (λ d. 0 + d) bs h)
 
 octets_big : (p : ℕ) (bs : List ℕ) → Octets bs → length bs ≡ p → octets p (big bs) ≡ bs
-octets_big p bs h e = ap (λ k. octets k (big bs)) (sym e) ∙ places_number 256 0 bs h
+octets_big p bs h e = ap (λ k. octets k (big bs)) (sym e) ∙ places_number 256 (λ b. b - 0) (λ d. 0 + d) bs h
 
 pub twos_back : (full n : ℕ) → n < full → of_twos full (twos full n) ≡ n
 twos_back full n h = cond_both (nat_lt (2 * n) full) (pos n) (negsuc (full - suc n)) (λ z. of_twos full z ≡ n) (λ _. refl) (λ _. omega arith)
@@ -65,4 +65,8 @@ binary_lawful k p =
     (λ _. cond_both (k == 3 && (nat_le 1 p && nat_le p 255)) _ _ Lawful (λ e. stored_lawful p (up_to (k == 3) (nat_le 1 p) (nat_le p 255) p 255 refl e)) (λ _. unknown_lawful)))
 
 pub length_octets : (w n : ℕ) → length (octets w n) ≡ w
-length_octets w n = length_places 256 0 w n
+length_octets w n = length_places 256 (λ b. b - 0) (λ d. 0 + d) w n
+
+-- one to four bytes hold a field's number
+pub small_field : (p n l : ℕ) → p ≤ 4 → l ≡ p → n < 256 ^ l → (n < 256 ^ p) × (256 ^ p ≤ 4294967296)
+small_field p n l h e k = (subst (λ j. n < 256 ^ j) e k, four p h)

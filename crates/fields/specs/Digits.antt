@@ -1,7 +1,7 @@
 -- Runs of decimal digits, the number that digits write, and digits of a fixed width.
 use Rattle.std.specs.Prelude.{◌≡◌, ℕ, Bool, ◌&&◌, List, length, take, drop, nat_le}
 use Rattle.std.specs.List.{prefix_len}
-use Rattle.fields.specs.Places.{number_on, places}
+use Rattle.fields.specs.Places.{number_from, places_from}
 
 abbrev pub is_digit : ℕ → Bool
 is_digit b = nat_le 48 b && nat_le b 57
@@ -16,14 +16,14 @@ AreDigits ds = run ds ≡ length ds
 
 -- the number that digits write, after those of n
 abbrev pub value_on : ℕ → List ℕ → ℕ
-value_on n ds = number_on 10 48 n ds
+value_on n ds = number_from 10 48 n ds
 
 abbrev pub value : List ℕ → ℕ
 value ds = value_on 0 ds
 
 -- the last w digits of n
 abbrev pub padded : ℕ → ℕ → List ℕ
-padded w n = places 10 48 w n
+padded w n = places_from 10 48 w n
 
 -- n bytes at a place
 abbrev pub digits_at : ℕ → ℕ → List ℕ → List ℕ

@@ -1,6 +1,6 @@
 -- The kinds of the binary family: numbers of a fixed count of bytes, most significant first, and kept bytes.
 use Rattle.std.specs.Prelude.{ℕ, suc, ◌-◌, ◌*◌, ◌^◌, Bool, cond, ◌&&◌, List, [], ◌∷◌, length, take, ℤ, pos, negsuc, ◌==◌, nat_le, nat_lt, unsigned_abs}
-use Rattle.fields.specs.Places.{number_on, places}
+use Rattle.fields.specs.Places.{number_from, places_from}
 use Rattle.fields.specs.declared.cause.Cause.{Cause}
 use Rattle.fields.specs.declared.cause.Cause.TheVariants.{Short}
 use Rattle.fields.specs.declared.cause.Sort.TheVariants.{Numeric, Kept}
@@ -8,11 +8,11 @@ use Rattle.fields.specs.Meanings.{Meaning, kind, unknown}
 
 -- the number that bytes make
 abbrev pub big : List ℕ → ℕ
-big bs = number_on 256 0 0 bs
+big bs = number_from 256 0 0 bs
 
 -- the last w bytes of n
 abbrev pub octets : ℕ → ℕ → List ℕ
-octets w n = places 256 0 w n
+octets w n = places_from 256 0 w n
 
 -- two's complement below a power of two, and back
 abbrev pub twos : ℕ → ℕ → ℤ

@@ -1,11 +1,12 @@
 -- Runs of digits, step by step, and their numbers.
-use Rattle.std.specs.Prelude.{◌≡◌, ℕ, cond, zero, suc, ◌+◌, ◌-◌, ◌*◌, ◌^◌, ◌<◌, ◌≤◌, Bool, true, false, List, [], ◌∷◌, ◌++◌, length, take, drop, nat_le, slice_index, refl}
+use Rattle.std.specs.Prelude.{◌≡◌, ℕ, cond, zero, suc, ◌+◌, ◌-◌, ◌*◌, ◌^◌, ◌<◌, ◌≤◌, Bool, true, false, List, [], ◌∷◌, ◌++◌, length, take, drop, nat_le, slice_index, refl, decimal}
 use Rattle.std.proofs.Common.{sym, ap, ◌∙◌, add-zero, arith, rules}
-use Rattle.std.proofs.lemmas.List.{length-take-le, get_or-drop}
+use Rattle.std.proofs.lemmas.List.{length-take-le, get_or-drop, get_or-take}
 use Rattle.std.proofs.lemmas.List.Sums.{prefix_len-le-length}
 use Rattle.std.proofs.lemmas.Bool.{leb-true, and_parts, le-leb, and_from}
 use Rattle.std.proofs.lemmas.Str.Parse.{IsNumeralModel, IsDigitsTest, numerals_by_fold, digits_value_short}
-use Rattle.fields.specs.PlaceValues.{Each, number_push, places_number, length_places}
+use Rattle.std.proofs.lemmas.Fmt.{digits_value-decimal, digits_decimal}
+use Rattle.fields.specs.PlaceValues.{EachFrom, number_push, places_number, length_places}
 use Rattle.fields.specs.Digits.{is_digit, run, AreDigits, value_on, value, padded}
 
 -- the first byte of what follows so many bytes
@@ -46,7 +47,7 @@ run_take (suc n) [] h = refl
 run_take (suc n) (b ∷ bs) h = run_take_more (is_digit b) n b bs refl (run_take n bs) h
 
 pub value_push : (n : ℕ) (ds : List ℕ) (d : ℕ) → value_on n (ds ++ d ∷ []) ≡ value_on n ds * 10 + (d - 48)
-value_push n ds d = number_push 10 48 n ds d
+value_push n ds d = number_push 10 (λ b. b - 48) (λ d. 48 + d) n ds d
 
 pub digit_at : (ds : List ℕ) (i : ℕ) → AreDigits ds → i < length ds → (48 ≤ slice_index ds i) × (slice_index ds i ≤ 57)
 digit_at [] i h k = absurd (omega arith)
@@ -54,15 +55,24 @@ digit_at (c ∷ ds) zero h k = (tells.parts c ds h).0
 digit_at (c ∷ ds) (suc i) h k = digit_at ds i (tells.parts c ds h).1 (omega arith)
 
 -- digits of a fixed width are the digits that the number was read from
-pub each_digit : (ds : List ℕ) → AreDigits ds → Each 10 48 ds
+pub each_digit : (ds : List ℕ) → AreDigits ds → EachFrom 10 48 ds
 each_digit [] h = tt
 each_digit (d ∷ ds) h = let t = tells.parts d ds h in ((omega (arith, t.0), omega (arith, t.0)), each_digit ds t.1)
 
 pub padded_value : (ds : List ℕ) → AreDigits ds → padded (length ds) (value ds) ≡ ds
-padded_value ds h = places_number 10 48 ds (each_digit ds h)
+padded_value ds h = places_number 10 (λ b. b - 48) (λ d. 48 + d) ds (each_digit ds h)
 
 pub value_take : (n k : ℕ) (bs : List ℕ) → n ≤ run bs → n ≤ k → value (take n bs) < 10 ^ k
 value_take n k bs h l = digits_value_short own (take n bs) k (run_take n bs h) (omega (arith, length-take-le n bs (omega (arith, run_le bs))))
 
 pub length_padded : (w n : ℕ) → length (padded w n) ≡ w
-length_padded w n = length_places 10 48 w n
+length_padded w n = length_places 10 (λ b. b - 48) (λ d. 48 + d) w n
+
+pub padded_decimal : (n : ℕ) → n < 2 ^ 64 → padded (length (decimal n)) n ≡ decimal n
+padded_decimal n h = ap (padded (length (decimal n))) (sym (digits_value-decimal own n h)) ∙ padded_value (decimal n) (digits_decimal own n h)
+
+pub run_digit : (bs : List ℕ) (i : ℕ) → i < run bs → (48 ≤ slice_index bs i) × (slice_index bs i ≤ 57)
+run_digit bs i h =
+    let e = get_or-take (run bs) bs i 0 h in
+    let d = digit_at (take (run bs) bs) i (run_take (run bs) bs (omega arith)) (omega (arith, length-take-le (run bs) bs (run_le bs))) in
+    (omega arith, omega arith)

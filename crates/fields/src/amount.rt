@@ -5,10 +5,10 @@ ghost use Rattle.fields.specs.Cursors.{unread, Ahead, Moved};
 ghost use Rattle.fields.specs.Digits.{value as value_of};
 ghost use Rattle.fields.specs.Amounts.{pointed, point_len, signed, amount, amount_spells};
 
-use crate::cause::Cause;
+use crate::cause::{Cause, Reading};
 use crate::cursor::{Cursor, Guard};
 use crate::digits::digits_value;
-use crate::spelling::{Spelling, add, add_decimal, add_digits};
+use crate::spelling::{Spelling, add, add_decimal, add_places};
 use crate::whole::is_led;
 
 // How many digits stand behind the point of an amount.
@@ -18,7 +18,7 @@ pub struct Decimals {
     ghost few: { count ≤ 4 },
 }
 
-// A number with its sign.
+// A number with its sign; a sign has two cases and is kept nowhere, so that an enum would be no plainer.
 fn with_sign(minus: bool, n: u64) -> i64
     requires { n < 10 ^ 12 }
     ensures { result ≡ signed minus n }
@@ -58,7 +58,7 @@ impl Decimals {
         front * self.scale() + fraction
     }
 
-    pub(crate) fn read(self, cursor: &mut Cursor) -> Result<(usize, i64), Cause>
+    pub(crate) fn read(self, cursor: &mut Cursor) -> Reading
         ensures answer { result ≡ (amount self.count).reads (unread cursor.old) }
         ensures place { Moved result cursor.old cursor.new }
     {
@@ -101,7 +101,7 @@ impl Decimals {
         add_decimal(&mut text, n / self.scale());
         if self.count > 0 {
             add(&mut text, b".");
-            add_digits(&mut text, n % self.scale(), usize::from(self.count));
+            add_places::<10, b'0'>(&mut text, n % self.scale(), usize::from(self.count));
         }
         text
     }

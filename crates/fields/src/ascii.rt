@@ -7,7 +7,7 @@ ghost use Rattle.fields.specs.Known.{ascii_table, listed};
 ghost use Rattle.fields.specs.AsciiLaw.{ascii_lawful};
 
 use crate::amount::Decimals;
-use crate::cause::{Cause, Sort};
+use crate::cause::{Cause, Reading, Sort};
 use crate::cursor::Cursor;
 use crate::date::{read_date, spell_date};
 use crate::family::{Family, Kind, TooShort};
@@ -75,7 +75,7 @@ impl Family for Ascii {
         }
     }
 
-    fn read(&self, kind: Kind, cursor: &mut Cursor) -> Result<(usize, i64), Cause>
+    fn read(&self, kind: Kind, cursor: &mut Cursor) -> Reading
         ensures answer { result ≡ (ascii_means kind.code kind.parameter).reads (unread cursor.old) }
         ensures place { Moved result cursor.old cursor.new }
     {
@@ -88,6 +88,7 @@ impl Family for Ascii {
         }
     }
 
+    // (This and the next stand alike in `Binary`: each is one call of what is shared, and a trait for both would be longer.)
     fn spelled_length(&self, kind: Kind, number: i64) -> usize
         ensures { result ≡ length ((ascii_means kind.code kind.parameter).spells number) }
     {

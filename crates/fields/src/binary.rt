@@ -7,7 +7,7 @@ ghost use Rattle.fields.specs.BinaryKinds.{means_as, sort_of, taken_by, number_a
 ghost use Rattle.fields.specs.Octets.{binary_means};
 ghost use Rattle.fields.specs.BigBytes.{binary_lawful};
 
-use crate::cause::{Cause, Sort};
+use crate::cause::{Cause, Reading, Sort};
 use crate::cursor::Cursor;
 use crate::digits::{number, value};
 use crate::family::{Family, Kind, TooShort};
@@ -94,7 +94,7 @@ impl Family for Binary {
         }
     }
 
-    fn read(&self, kind: Kind, cursor: &mut Cursor) -> Result<(usize, i64), Cause>
+    fn read(&self, kind: Kind, cursor: &mut Cursor) -> Reading
         ensures answer { result ≡ (binary_means kind.code kind.parameter).reads (unread cursor.old) }
         ensures place { Moved result cursor.old cursor.new }
     {

@@ -18,7 +18,10 @@ pub enum Cause {
     SecondSpelling = 4,
 }
 
-// What a kind with its parameter is.
+// What reading a field gives: its length and its number, or the cause.
+pub type Reading = Result<(usize, i64), Cause>;
+
+// What a kind with its parameter is. Not to know it is one of the answers, as a family's table gives them, and so no `None`.
 #[derive(Clone, Copy, PartialEq, Eq, Debug)]
 pub enum Sort {
     // The family does not know it.
@@ -30,24 +33,32 @@ pub enum Sort {
 }
 
 impl Cause {
-    // The number of a cause in reports.
+    // The number of a cause in reports. (One line, alike in crates that share none below them.)
     pub fn number(self) -> u8
         ensures { result ≡ number_of self }
     {
         self as u8
     }
-}
 
-impl fmt::Display for Cause {
-    ghost output = { λ c. Some (reason c) };
-
-    fn fmt<W: fmt::Write>(&self, f: &mut fmt::Formatter<W>) -> fmt::Result {
-        f.write_str(match self {
+    // A cause in words.
+    pub fn reason(self) -> &'static str
+        ensures { result.now ≡ reason self }
+    {
+        match self {
             Cause::Short => "the bytes end too soon",
             Cause::Form => "the bytes have another form",
             Cause::Range => "too large, or no such date",
             Cause::SecondSpelling => "a second spelling of the number",
-        })
+        }
+    }
+}
+
+// (Written out: a derive would not state the bytes.)
+impl fmt::Display for Cause {
+    ghost output = { λ c. Some (reason c) };
+
+    fn fmt<W: fmt::Write>(&self, f: &mut fmt::Formatter<W>) -> fmt::Result {
+        f.write_str(self.reason())
     }
 }
 

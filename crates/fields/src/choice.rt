@@ -5,7 +5,7 @@ ghost use Rattle.either.specs.declared.Either.TheVariants.{Left, Right};
 ghost use Rattle.fields.specs.Buffers.{written};
 ghost use Rattle.fields.specs.Cursors.{unread, Moved};
 
-use crate::cause::{Cause, Sort};
+use crate::cause::{Reading, Sort};
 use crate::cursor::Cursor;
 use crate::family::{Family, Kind, TooShort};
 use either::{Either, for_both};
@@ -22,7 +22,7 @@ impl<A: Family, B: Family> Family for Either<A, B> {
         for_both!(self, family => family.sort(kind))
     }
 
-    fn read(&self, kind: Kind, cursor: &mut Cursor) -> Result<(usize, i64), Cause>
+    fn read(&self, kind: Kind, cursor: &mut Cursor) -> Reading
         ensures answer { result ≡ (either A.Family.means B.Family.means self.now kind.code kind.parameter).reads (unread cursor.old) }
         ensures place { Moved result cursor.old cursor.new }
     {

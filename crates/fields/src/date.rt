@@ -4,10 +4,10 @@ ghost use Rattle.fields.specs.Calendar.{leap, days, is_date};
 ghost use Rattle.fields.specs.Cursors.{unread, Moved};
 ghost use Rattle.fields.specs.Dates.{date, date_spells};
 
-use crate::cause::Cause;
+use crate::cause::{Cause, Reading};
 use crate::cursor::{Cursor, Guard};
 use crate::digits::number;
-use crate::spelling::{Spelling, add, add_digits};
+use crate::spelling::{Spelling, add, add_places};
 
 fn is_leap(year: u64) -> bool
     ensures { result ≡ leap year }
@@ -34,7 +34,7 @@ fn is_date(year: u64, month: u64, day: u64) -> bool
     year >= 1900 && year <= 2199 && day >= 1 && day <= days_in(year, month)
 }
 
-pub(crate) fn read_date(cursor: &mut Cursor) -> Result<(usize, i64), Cause>
+pub(crate) fn read_date(cursor: &mut Cursor) -> Reading
     ensures answer { result ≡ date.reads (unread cursor.old) }
     ensures place { Moved result cursor.old cursor.new }
 {
@@ -62,10 +62,10 @@ pub(crate) fn spell_date(number: i64) -> Spelling
 {
     let n = number.unsigned_abs();
     let mut text = Spelling::new();
-    add_digits(&mut text, n / 10000, 4);
+    add_places::<10, b'0'>(&mut text, n / 10000, 4);
     add(&mut text, b"-");
-    add_digits(&mut text, n / 100 % 100, 2);
+    add_places::<10, b'0'>(&mut text, n / 100 % 100, 2);
     add(&mut text, b"-");
-    add_digits(&mut text, n % 100, 2);
+    add_places::<10, b'0'>(&mut text, n % 100, 2);
     text
 }

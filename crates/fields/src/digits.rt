@@ -1,8 +1,8 @@
 // Numbers written with places in a base: runs of decimal digits, the number that places write, and writing them.
 ghost use Rattle.std.specs.Prelude.{◌≡◌, ◌+◌, ◌^◌, ◌<◌, ◌≤◌, length, pos};
 ghost use Rattle.fields.specs.Digits.{run as run_of, value as value_of, AreDigits};
-ghost use Rattle.fields.specs.PlaceValues.{Each};
-ghost use Rattle.fields.specs.Places.{number_on, places};
+ghost use Rattle.fields.specs.PlaceValues.{EachFrom};
+ghost use Rattle.fields.specs.Places.{number_from, places_from};
 
 // How long the run of decimal digits at the beginning is.
 pub(crate) fn run(bytes: &[u8]) -> usize
@@ -13,9 +13,9 @@ pub(crate) fn run(bytes: &[u8]) -> usize
 
 // The number that bytes write with places in a base; `FIRST` is the byte of place 0.
 pub(crate) fn value<const BASE: u64, const FIRST: u8>(bytes: &[u8]) -> u64
-    requires held { Each BASE FIRST bytes.now }
+    requires held { EachFrom BASE FIRST bytes.now }
     requires few { BASE ^ length bytes.now ≤ 2 ^ 48 }
-    ensures is { result ≡ number_on BASE FIRST 0 bytes.now }
+    ensures is { result ≡ number_from BASE FIRST 0 bytes.now }
     ensures below { result < BASE ^ length bytes.now }
 {
     let mut n = 0;
@@ -48,7 +48,7 @@ pub(crate) fn number(n: u64) -> i64
 // Fills a buffer with the last places of a number in a base; `FIRST` is the byte of place 0.
 pub(crate) fn fill<const BASE: u64, const FIRST: u8>(n: u64, out: &mut [u8])
     requires { (0 < BASE) × (FIRST + BASE ≤ 256) }
-    ensures { out.new ≡ places BASE FIRST (length out.old) n }
+    ensures { out.new ≡ places_from BASE FIRST (length out.old) n }
 {
     let mut left = n;
     // no iter_mut().rev(): a proof knows nothing of what is written through it

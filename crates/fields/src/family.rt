@@ -5,7 +5,7 @@ ghost use Rattle.fields.specs.Meanings.{Meaning};
 ghost use Rattle.fields.specs.Laws.{Lawful};
 ghost use Rattle.fields.specs.Buffers.{written};
 
-use crate::cause::{Cause, Sort};
+use crate::cause::{Reading, Sort};
 use crate::cursor::Cursor;
 
 // A kind with its parameter. Both stay numbers, as a layout has them: which there are, and what they mean, is the family's.
@@ -32,6 +32,7 @@ impl Kind {
 #[derive(Clone, Copy, PartialEq, Eq, Debug)]
 pub struct TooShort;
 
+// Each family of this crate states the clauses of its calls once more in its own definitions, so that another lawful meaning does not pass for it.
 pub trait Family {
     ghost means: { Self → ℕ → ℕ → Meaning };
 
@@ -39,7 +40,7 @@ pub trait Family {
         ensures { result ≡ (means self.now kind.code kind.parameter).sort };
 
     // Reads a field at the cursor: its length and number, and the place is behind it; or the cause, and the place stays.
-    fn read(&self, kind: Kind, cursor: &mut Cursor) -> Result<(usize, i64), Cause>
+    fn read(&self, kind: Kind, cursor: &mut Cursor) -> Reading
         ensures answer { result ≡ (means self.now kind.code kind.parameter).reads (unread cursor.old) }
         ensures place { Moved result cursor.old cursor.new };
 

@@ -5,7 +5,7 @@ mod amount;
 pub mod ascii;
 pub mod binary;
 pub mod cause;
-pub mod choice;
+mod choice;
 pub mod cursor;
 mod date;
 mod digits;

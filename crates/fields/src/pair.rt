@@ -8,7 +8,7 @@ ghost use Rattle.std.proofs.lemmas.Bool.{cond_both};
 ghost use Rattle.fields.specs.Laws.{Lawful};
 ghost use Rattle.fields.specs.Fairs.{unknown_lawful};
 
-use crate::cause::{Cause, Sort};
+use crate::cause::{Cause, Reading, Sort};
 use crate::cursor::Cursor;
 use crate::family::{Family, Kind, TooShort};
 
@@ -45,7 +45,7 @@ impl<A: Family, B: Family> Family for Pair<A, B> {
         }
     }
 
-    fn read(&self, kind: Kind, cursor: &mut Cursor) -> Result<(usize, i64), Cause>
+    fn read(&self, kind: Kind, cursor: &mut Cursor) -> Reading
         ensures answer { result ≡ (pair_means (A.Family.means self.now.first) (B.Family.means self.now.second) kind.code kind.parameter).reads (unread cursor.old) }
         ensures place { Moved result cursor.old cursor.new }
     {

@@ -1,7 +1,7 @@
 // The bytes of a number, made before they are written: they lie on the stack.
-ghost use Rattle.std.specs.Prelude.{◌≡◌, ◌+◌, ◌≤◌, ◌++◌, length, decimal};
+ghost use Rattle.std.specs.Prelude.{◌≡◌, ◌+◌, ◌<◌, ◌≤◌, ◌++◌, length, decimal};
 ghost use Rattle.fields.specs.Buffers.{written};
-ghost use Rattle.fields.specs.Digits.{padded};
+ghost use Rattle.fields.specs.Places.{places_from};
 
 use crate::digits::fill;
 use crate::family::TooShort;
@@ -31,15 +31,20 @@ pub(crate) fn add_decimal(text: &mut Spelling, n: u64)
     add(text, Buffer::new().format(n).as_bytes());
 }
 
-// Adds the last digits of a number.
-pub(crate) fn add_digits(text: &mut Spelling, n: u64, width: usize)
+// Adds the last places of a number in a base; `FIRST` is the byte of place 0.
+pub(crate) fn add_places<const BASE: u64, const FIRST: u8>(
+    text: &mut Spelling,
+    n: u64,
+    width: usize,
+)
+    requires base { (0 < BASE) × (FIRST + BASE ≤ 256) }
     requires few { width ≤ 4 }
     requires room { length text.old.items + width ≤ 26 }
-    ensures { text.new.items ≡ text.old.items ++ padded width n }
+    ensures { text.new.items ≡ text.old.items ++ places_from BASE FIRST width n }
 {
-    let mut digits = [0; 4];
-    fill::<10, b'0'>(n, &mut digits[..width]);
-    add(text, &digits[..width]);
+    let mut bytes = [0; 4];
+    fill::<BASE, FIRST>(n, &mut bytes[..width]);
+    add(text, &bytes[..width]);
 }
 
 // Writes bytes at the beginning of a buffer, and says how many; a buffer without room is left as it is.

@@ -1,4 +1,4 @@
-// Kept text: up to the first byte p, or to the row's end.
+// Kept text: up to the first byte that stops it, or to the row's end.
 ghost use Rattle.std.specs.Prelude.{◌≡◌, pos};
 ghost use Rattle.fields.specs.Cursors.{unread, Ahead};
 ghost use Rattle.fields.specs.Texts.{before, text_length};
@@ -6,7 +6,7 @@ ghost use Rattle.fields.specs.Texts.{before, text_length};
 use crate::cursor::Cursor;
 use crate::digits::number;
 
-// How many bytes stand before the first byte of that number.
+// How many bytes stand before the first byte `stop`.
 fn bytes_before(stop: u8, bytes: &[u8]) -> usize
     ensures { result ≡ before stop bytes.now }
 {

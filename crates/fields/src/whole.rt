@@ -3,7 +3,7 @@ ghost use Rattle.std.specs.Prelude.{◌≡◌};
 ghost use Rattle.fields.specs.Cursors.{unread, Moved};
 ghost use Rattle.fields.specs.Wholes.{leads, whole, whole_spells};
 
-use crate::cause::Cause;
+use crate::cause::{Cause, Reading};
 use crate::cursor::{Cursor, Guard};
 use crate::digits::{digits_value, number, run};
 use crate::spelling::{Spelling, add_decimal};
@@ -16,7 +16,7 @@ pub(crate) fn is_led(bytes: &[u8]) -> bool
 }
 
 // Reads the digits, and puts the place back where they are no whole number.
-pub(crate) fn read_whole(cursor: &mut Cursor) -> Result<(usize, i64), Cause>
+pub(crate) fn read_whole(cursor: &mut Cursor) -> Reading
     ensures answer { result ≡ whole.reads (unread cursor.old) }
     ensures place { Moved result cursor.old cursor.new }
 {

@@ -2,8 +2,7 @@
 ghost use Rattle.std.specs.Prelude.{◌≡◌, ◌^◌, ◌<◌, ◌≤◌};
 ghost use Rattle.fields.specs.Octets.{octets, twos, of_twos};
 
-use crate::digits::fill;
-use crate::spelling::{Spelling, add};
+use crate::spelling::{Spelling, add_places};
 
 // How many bytes a number takes.
 #[derive(Clone, Copy)]
@@ -46,11 +45,8 @@ impl Width {
     pub(crate) fn octets(self, n: u64) -> Spelling
         ensures { result.items ≡ octets self.bytes n }
     {
-        let count = usize::from(self.bytes);
-        let mut bytes = [0; 4];
-        fill::<256, 0>(n, &mut bytes[..count]);
         let mut text = Spelling::new();
-        add(&mut text, &bytes[..count]);
+        add_places::<256, 0>(&mut text, n, usize::from(self.bytes));
         text
     }
 }

@@ -10,7 +10,7 @@ use rows::rule::RowRule;
 // The length of a header.
 pub const HEADER: usize = 4;
 
-// `done` tells whether the row was handed out.
+// `done` tells whether the row was handed out: two states with nothing beside them, so that an enum would be no plainer.
 #[derive(Clone, Copy)]
 pub struct Headed {
     done: bool,

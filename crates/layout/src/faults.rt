@@ -1,4 +1,4 @@
-// Tests of one node of a table: each refusal but that of the depth is a test that some node meets.
+// Tests of one node of a table: each refusal but that of the depth is a test that some node meets. (A slice and the number of one of its nodes are two arguments: a type for both would be made anew for each node.)
 ghost use Rattle.std.specs.Prelude.{◌≡◌, ◌≤◌, length};
 ghost use Rattle.std.specs.List.{list_any};
 ghost use Rattle.layout.specs.Links.{any_node, astray, ill_filled, ill_linked, is_set, link_at, links_to, no_link, stranded};
@@ -51,12 +51,12 @@ fn is_astray(count: usize, number: usize, link: u16) -> bool
     link != 0 && (link <= number || link > count)
 }
 
-// The next of a node, and 0 for what is none.
-fn next_of(nodes: &[NodeRecord], number: u16) -> u16
-    ensures { result ≡ (link_at (links_in nodes.now) number).next }
+// Whether the node of a number, if there is one, has a next.
+fn has_next(nodes: &[NodeRecord], number: u16) -> bool
+    ensures { result ≡ is_set (link_at (links_in nodes.now) number).next }
 {
     let at = usize::from(number).saturating_sub(1);
-    nodes.get(at).map_or(0, |node| node.next)
+    nodes.get(at).is_some_and(|node| node.next != 0)
 }
 
 // Whether what is below a node is not as it should be.
@@ -65,7 +65,7 @@ fn is_ill_filled(nodes: &[NodeRecord], node: &NodeRecord) -> bool
 {
     match shape_of(node) {
         Some(Shape::Sequence { child } | Shape::Choice { child }) => child == 0,
-        Some(Shape::Optional { child }) => child == 0 || next_of(nodes, child) != 0,
+        Some(Shape::Optional { child }) => child == 0 || has_next(nodes, child),
         _ => false,
     }
 }
@@ -97,7 +97,7 @@ fn is_stranded(nodes: &[NodeRecord], number: usize) -> bool
     number > 1 && count_links(nodes, number) != 1
 }
 
-// How often a node is child or next of a node.
+// How often a node is child or next of a node: one that is both of one node counts twice.
 #[tactic(auto, using(crate::proofs::Views::links_counted))]
 fn count_links(nodes: &[NodeRecord], number: usize) -> usize
     ensures { result ≡ links_to number (links_in nodes.now) }

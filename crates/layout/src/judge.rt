@@ -1,6 +1,7 @@
 // Which refusal a table of records meets first.
 ghost use Rattle.std.specs.Prelude.{◌≡◌, ◌<◌, ◌≤◌, length};
 ghost use Rattle.layout.specs.Shapes.{sorts};
+ghost use Rattle.layout.specs.Files.{answer};
 ghost use Rattle.layout.specs.Judged.{limits, judged};
 
 use crate::faults::{any_ill_linked, any_outside, any_stranded, any_stray_bits, any_unknown_kind};
@@ -9,33 +10,33 @@ use crate::refusal::Refusal;
 use fields::family::Family;
 use packed::record::NodeRecord;
 
-// Each refusal is tried on all nodes before the next.
-pub(crate) fn first_refusal<F: Family>(
+// Refuses a table by the first refusal that it meets; each is tried on all nodes before the next.
+pub(crate) fn judge<F: Family>(
     family: &F,
     nodes: &[NodeRecord],
     constants: usize,
-) -> Option<Refusal>
+) -> Result<(), Refusal>
     requires some { 0 < length nodes.now }
     requires few { length nodes.now ≤ 200 }
-    ensures { result ≡ judged limits (sorts (F.Family.means family.now)) constants nodes.now }
+    ensures { result ≡ answer (judged limits (sorts (F.Family.means family.now)) constants nodes.now) }
 {
     if any_stray_bits(nodes) {
-        return Some(Refusal::Bits);
+        return Err(Refusal::Bits);
     }
     if any_ill_linked(nodes) {
-        return Some(Refusal::Links);
+        return Err(Refusal::Links);
     }
     if any_stranded(nodes) {
-        return Some(Refusal::Stranded);
+        return Err(Refusal::Stranded);
     }
     if any_unknown_kind(family, nodes) {
-        return Some(Refusal::Kind);
+        return Err(Refusal::Kind);
     }
     if any_outside(constants, nodes) {
-        return Some(Refusal::Range);
+        return Err(Refusal::Range);
     }
     if is_too_deep(nodes) {
-        return Some(Refusal::Depth);
+        return Err(Refusal::Depth);
     }
-    None
+    Ok(())
 }

@@ -25,7 +25,7 @@ pub enum Refusal {
 }
 
 impl Refusal {
-    // The number by which a refusal is known.
+    // The number by which a refusal is known. (One line, alike in crates that share none below them.)
     pub fn number(self) -> u8
         ensures { result ≡ number_of self }
     {
@@ -33,6 +33,7 @@ impl Refusal {
     }
 }
 
+// (Written out: a derive would not state the bytes.)
 impl fmt::Display for Refusal {
     ghost output = { λ refusal. Some (text_of refusal) };
 

@@ -1,4 +1,4 @@
-// What the numbers of a packed node say. They are asked before they are judged, so that each has a meaning here, even one that is refused later: a public From or TryFrom would promise that meaning to others.
+// What the numbers of a packed node say. A node is read before it is judged, so each number has a meaning here, even one that is refused later: a public From or TryFrom would promise that meaning to others.
 ghost use Rattle.std.specs.Prelude.{◌≡◌};
 ghost use Rattle.layout.specs.Shapes.{relation_of, side_of, shape_of, node_of};
 

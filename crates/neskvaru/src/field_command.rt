@@ -1,6 +1,6 @@
 // The command `field`: reads one field of some text, and says what that gives.
 use crate::failure::Failure;
-use cli::families::{chosen_family, family_of};
+use cli::families::{AnyFamily, family_of};
 use cli::numbers::number_of;
 use cli::problems::Problem;
 use cli::readings::Reading;
@@ -44,7 +44,7 @@ pub fn read_field<'a>(
         code: small_number(kind, 63).ok_or(Problem::NoNumber(kind))?,
         parameter: small_number(p, 255).ok_or(Problem::NoNumber(p))?,
     };
-    let chosen = chosen_family(words);
+    let chosen = AnyFamily::from(words);
     if chosen.sort(kind) == Sort::Unknown {
         return Err(Problem::UnknownKind(family).into());
     }

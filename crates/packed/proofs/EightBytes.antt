@@ -2,14 +2,14 @@
 use Rattle.std.proofs.Common.{◌≡◌, ℕ, ◌+◌, ◌-◌, ◌*◌, ◌^◌, ◌<◌, List, length, get_or, drop, sym, ap, ◌∙◌, arith}
 use Rattle.std.proofs.lemmas.List.{at_drop_more, at_drop_all}
 use Rattle.fields.specs.Laws.{Bytes}
-use Rattle.fields.specs.Places.{number_on, places}
+use Rattle.fields.specs.Places.{number_from, places_from}
 use Rattle.fields.specs.PlaceValues.{number_places, places_number}
 use Rattle.fields.specs.BigBytes.{each_from}
 use Rattle.packed.specs.Octets.{big, octets}
 
 -- the number that bytes make, after those of n
 abbrev on : ℕ → List ℕ → ℕ
-on n bytes = number_on 256 0 n bytes
+on n bytes = number_from 256 0 n bytes
 
 -- byte by byte
 pub big_eight : (bytes : List ℕ) → length bytes ≡ 8 → get_or bytes 0 0 * 72057594037927936 + get_or bytes 1 0 * 281474976710656 + get_or bytes 2 0 * 1099511627776 + get_or bytes 3 0 * 4294967296 + get_or bytes 4 0 * 16777216 + get_or bytes 5 0 * 65536 + get_or bytes 6 0 * 256 + get_or bytes 7 0 ≡ big bytes
@@ -20,11 +20,11 @@ big_eight bytes h =
 
 -- a number of 64 bits is that of its bytes
 pub big_octets : (n : ℕ) → n < 2 ^ 64 → big (octets n) ≡ n
-big_octets n h = number_places 256 0 (omega arith) 8 n h
+big_octets n h = number_places 256 (λ b. b - 0) (λ d. 0 + d) (λ d k. omega arith) (omega arith) 8 n h
 
 -- eight bytes are those of their number
 pub octets_big : (bytes : List ℕ) → Bytes bytes → length bytes ≡ 8 → octets (big bytes) ≡ bytes
-octets_big bytes h e = ap (λ w. places 256 0 w (big bytes)) (sym e) ∙ places_number 256 0 bytes (each_from bytes h)
+octets_big bytes h e = ap (λ w. places_from 256 0 w (big bytes)) (sym e) ∙ places_number 256 (λ b. b - 0) (λ d. 0 + d) bytes (each_from bytes h)
 
 pub big_below : (bytes : List ℕ) → Bytes bytes → length bytes ≡ 8 → big bytes < 2 ^ 64
 big_below bytes h e = omega (arith, big_eight bytes e, h 0, h 1, h 2, h 3, h 4, h 5, h 6, h 7)

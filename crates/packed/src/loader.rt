@@ -11,7 +11,7 @@ pub trait Packed {
         ensures { result ≡ decode eight.now };
 }
 
-// Loads as many records as the bytes and the slice have, in order, and answers how many; the rest of the slice stays.
+// Loads as many records as the bytes and the slice have, in order, and answers how many; the rest of the slice stays. The slice is the caller's: loading takes no memory.
 pub fn load<T: Packed + Copy>(bytes: &[u8], out: &mut [T]) -> usize
     ensures count { result ≡ min (length (records T.Packed.decode bytes.now)) (length out.old) }
     ensures after { out.new ≡ loaded (records T.Packed.decode bytes.now) out.old }

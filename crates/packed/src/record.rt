@@ -7,7 +7,7 @@ use crate::eight::{bytes_of, number};
 use crate::loader::Packed;
 
 // Node numbers have 16 bits here; how many the packed form has is known only in this file and in the widths that it cites.
-// Shape and kind stay numbers: eight bytes may name no shape, and that is for the layout to judge.
+// All fields stay numbers, as the eight bytes have them: they may name no shape, a child or next of 0 is none only where a shape allows one, and what kind and parameter are hangs on the shape. That is for the layout to judge.
 #[derive(Clone, Copy, PartialEq, Eq, Debug)]
 pub struct NodeRecord {
     pub shape: u8,
@@ -52,13 +52,13 @@ impl NodeRecord {
         requires { fitting widths (fields_of self.now) ≡ true }
         ensures { result ≡ joined widths (fields_of self.now) }
     {
-        ((self.shape as u64) << 60)
-            + ((self.kind as u64) << 54)
-            + ((self.parameter as u64) << 46)
-            + ((self.column as u64) << 40)
-            + ((self.child as u64) << 32)
-            + ((self.next as u64) << 24)
-            + self.rest as u64
+        (u64::from(self.shape) << 60)
+            + (u64::from(self.kind) << 54)
+            + (u64::from(self.parameter) << 46)
+            + (u64::from(self.column) << 40)
+            + (u64::from(self.child) << 32)
+            + (u64::from(self.next) << 24)
+            + u64::from(self.rest)
     }
 }
 

@@ -4,10 +4,11 @@ use crate::outcome::Outcome;
 // What became of one node: where in the row it begins, how many bytes it covers, and a number that the node's shape gives a meaning.
 #[derive(Clone, Copy, PartialEq, Eq, Debug)]
 pub struct Line {
-    // 0 for the row as a whole
+    // 0 for the row as a whole: a report's lines are told in these numbers, and the rules speak of node 0
     pub node: u16,
     pub outcome: Outcome,
     pub start: usize,
     pub length: usize,
+    // a field's number, the branch or the part that was taken, or a cause, as docs/REPORTS.md has it for each shape and outcome
     pub number: i64,
 }

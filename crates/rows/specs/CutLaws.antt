@@ -64,6 +64,10 @@ pub was_row : (rs : List RowAt) (t : TailAt) (r : RowAt) → row r ≡ first_pie
 was_row [] t r e = cc
 was_row (q ∷ rs) t r e = let z : q ≡ r = cc in ap (λ y. y ∷ rs) z
 
+pub was_tail : (rs : List RowAt) (t u : TailAt) → tail u ≡ first_piece rs t → (rs ≡ []) × (u ≡ t)
+was_tail [] t u e = (refl, cc)
+was_tail (q ∷ rs) t u e = absurd cc
+
 -- a lawful rule cuts no more rows than there are bytes
 not_nil : (xs : List ℕ) → (xs ≢ []) → 1 ≤ length xs
 not_nil [] h = absurd (h refl)

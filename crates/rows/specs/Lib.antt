@@ -9,6 +9,7 @@ pub mod Refusals
 pub mod Newlines
 pub mod Widths
 pub mod Samples
+pub mod SampleStates
 pub mod Words
 pub mod Files
 pub mod Examples

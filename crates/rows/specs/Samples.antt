@@ -21,10 +21,6 @@ sample_from frame n p file below = record {
 abbrev pub sampled : ℕ → Meaning → Meaning
 sampled n m = record { cut = λ file. sample_from m.frame n 0 file (m.cut file); frame = m.frame; carries = m.carries }
 
--- what a sample has ahead: `left` rows more of the rule below, and frames handed out that end at a place
-abbrev pub sample_ahead : {R : Type 0} → (R → Meaning) → (R → List ℕ → Cut) → ℕ → ℕ → R → List ℕ → Cut
-sample_ahead means ahead left end below file = sample_from (means below).frame left end file (ahead below file)
-
 -- A row is handed on from below, or none: what was ahead tells it, or else the tail at a place; where no row was ahead, nothing changes.
 pub record HandedOn (file : List ℕ) (handed : Option Piece) (place : ℕ) (before after : List ℕ → Cut) : Type 0 where
   pub tells : MatchOption handed (rest_at place file ≡ piece_of (before file)) (λ p. told p ≡ piece_of (before file))

@@ -1,7 +1,7 @@
 // Row rules: how a bank's export is cut into rows.
 #![tactic(auto)]
 
-pub mod choice;
+mod choice;
 pub mod file;
 mod frames;
 pub mod newline;

@@ -2,7 +2,7 @@
 ghost use Rattle.std.specs.Prelude.{◌≡◌, MatchOption};
 ghost use Rattle.rows.specs.Finds.{row_of};
 ghost use Rattle.rows.specs.Told.{told, row, Of, rest_at};
-ghost use Rattle.rows.specs.Words.{unended};
+ghost use Rattle.rows.specs.Words.{unended, word};
 
 use std::fmt;
 
@@ -20,19 +20,25 @@ impl Mark {
     {
         matches!(self, Mark::Unended)
     }
+
+    // What a mark is called.
+    pub fn word(self) -> &'static str
+        ensures { result.now ≡ word self }
+    {
+        match self {
+            Mark::Ended => "ended",
+            Mark::Unended => "unended",
+        }
+    }
 }
 
 impl fmt::Display for Mark {
     ghost use Rattle.std.specs.Prelude.{Some};
-    ghost use Rattle.rows.specs.Words.{word};
 
     ghost output = { λ mark. Some (word mark) };
 
     fn fmt<W: fmt::Write>(&self, f: &mut fmt::Formatter<W>) -> fmt::Result {
-        f.write_str(match self {
-            Mark::Ended => "ended",
-            Mark::Unended => "unended",
-        })
+        f.write_str(self.word())
     }
 }
 

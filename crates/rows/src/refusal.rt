@@ -1,6 +1,6 @@
 // Why a call on a row rule is refused.
 ghost use Rattle.std.specs.Prelude.{◌≡◌};
-ghost use Rattle.rows.specs.Refusals.{number_of};
+ghost use Rattle.rows.specs.Refusals.{number_of, reason};
 
 use std::error::Error;
 use std::fmt;
@@ -17,26 +17,33 @@ pub enum Refusal {
 }
 
 impl Refusal {
-    // The number by which a refusal is known.
+    // The number by which a refusal is known. (One line, alike in crates that share none below them.)
     pub fn number(self) -> u8
         ensures { result ≡ number_of self }
     {
         self as u8
     }
+
+    // What a refusal means.
+    pub fn reason(self) -> &'static str
+        ensures { result.now ≡ reason self }
+    {
+        match self {
+            Refusal::FileTooLong => "a file has more than 16777216 bytes",
+            Refusal::OutOfRange => "a width is not 1 to 4096, or a sample is not 0 to 16777216",
+            Refusal::BufferTooShort => "a buffer is too short",
+        }
+    }
 }
 
+// (Written out: a derive would not state the bytes.)
 impl fmt::Display for Refusal {
     ghost use Rattle.std.specs.Prelude.{Some};
-    ghost use Rattle.rows.specs.Refusals.{reason};
 
     ghost output = { λ e. Some (reason e) };
 
     fn fmt<W: fmt::Write>(&self, f: &mut fmt::Formatter<W>) -> fmt::Result {
-        f.write_str(match self {
-            Refusal::FileTooLong => "a file has more than 16777216 bytes",
-            Refusal::OutOfRange => "a width is not 1 to 4096, or a sample is not 0 to 16777216",
-            Refusal::BufferTooShort => "a buffer is too short",
-        })
+        f.write_str(self.reason())
     }
 }
 

@@ -2,12 +2,11 @@
 ghost use Rattle.std.specs.Prelude.{◌≡◌, ℕ, ◌+◌, ◌-◌, ◌<◌, ◌≤◌, List, IfOk, MatchResult};
 ghost use Rattle.rows.specs.Cuts.{File};
 ghost use Rattle.rows.specs.declared.refusal.Refusal.TheVariants.{OutOfRange};
-ghost use Rattle.rows.specs.Samples.{sampled, sample_ahead, HandedOn};
+ghost use Rattle.rows.specs.Samples.{HandedOn};
 ghost use Rattle.rows.specs.Frames.{measured};
 ghost use Rattle.rows.specs.Steps.{SetOn, Asked};
 ghost use Rattle.rows.specs.Told.{told};
 ghost use Rattle.rows.specs.Words.{SampleRows};
-ghost use Rattle.rows.specs.SampleCuts.{sample_lawful};
 
 use crate::piece::{Mark, Piece};
 use crate::refusal::Refusal;
@@ -57,12 +56,13 @@ impl<R> Sample<R> {
     }
 }
 
-// (`sample_ahead` takes the parts of a sample one by one: a definition over the struct would import the module that its ghost field needs in a circle.)
 impl<R: RowRule> Sample<R> {
+    ghost use Rattle.rows.specs.SampleStates.{sample_means, sample_ahead};
+
     // The next row below, if one more is wanted and there is one.
     fn row_below<'f>(&mut self, file: &'f [u8]) -> Option<Piece<'f>>
-        ensures hands { HandedOn file.now result self.new.end (sample_ahead R.RowRule.means R.RowRule.ahead self.old.left self.old.end self.old.below) (sample_ahead R.RowRule.means R.RowRule.ahead self.new.left self.new.end self.new.below) }
-        ensures kept { (self.new.limit ≡ self.old.limit) × (R.RowRule.means self.new.below ≡ R.RowRule.means self.old.below) }
+        ensures hands { HandedOn file.now result self.new.end (sample_ahead R.RowRule.means R.RowRule.ahead self.old) (sample_ahead R.RowRule.means R.RowRule.ahead self.new) }
+        ensures kept { sample_means R.RowRule.means self.new ≡ sample_means R.RowRule.means self.old }
     {
         if self.left == 0 {
             return None;
@@ -78,14 +78,17 @@ impl<R: RowRule> Sample<R> {
 }
 
 impl<R: RowRule> RowRule for Sample<R> {
-    ghost means = { λ s. sampled s.limit (R.RowRule.means s.below) };
+    ghost use Rattle.rows.specs.SampleStates.{sample_means, sample_ahead};
+    ghost use Rattle.rows.specs.SampleCuts.{sample_lawful};
 
-    ghost ahead = { λ s. sample_ahead R.RowRule.means R.RowRule.ahead s.left s.end s.below };
+    ghost means = { sample_means R.RowRule.means };
+
+    ghost ahead = { sample_ahead R.RowRule.means R.RowRule.ahead };
 
     ghost lawful = { λ s. sample_lawful (R.RowRule.means s.below) (R.RowRule.lawful s.below) s.limit };
 
     fn set(&mut self, file: &[u8])
-        ensures { SetOn file.now (sampled self.old.limit (R.RowRule.means self.old.below)) (sampled self.new.limit (R.RowRule.means self.new.below)) (sample_ahead R.RowRule.means R.RowRule.ahead self.new.left self.new.end self.new.below) }
+        ensures { SetOn file.now (sample_means R.RowRule.means self.old) (sample_means R.RowRule.means self.new) (sample_ahead R.RowRule.means R.RowRule.ahead self.new) }
     {
         self.left = self.limit;
         self.end = 0;
@@ -93,7 +96,7 @@ impl<R: RowRule> RowRule for Sample<R> {
     }
 
     fn next<'f>(&mut self, file: &'f [u8]) -> Piece<'f>
-        ensures { Asked file.now (told result) (sampled self.old.limit (R.RowRule.means self.old.below)) (sampled self.new.limit (R.RowRule.means self.new.below)) (sample_ahead R.RowRule.means R.RowRule.ahead self.old.left self.old.end self.old.below) (sample_ahead R.RowRule.means R.RowRule.ahead self.new.left self.new.end self.new.below) }
+        ensures { Asked file.now (told result) (sample_means R.RowRule.means self.old) (sample_means R.RowRule.means self.new) (sample_ahead R.RowRule.means R.RowRule.ahead self.old) (sample_ahead R.RowRule.means R.RowRule.ahead self.new) }
     {
         self.row_below(file)
             .unwrap_or_else(|| Piece::tail_from(file, self.end))

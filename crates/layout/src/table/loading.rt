@@ -8,7 +8,7 @@ ghost use Rattle.layout.specs.Loading.{Loaded, DepthTold};
 ghost use Rattle.layout.specs.Files.{Sized, nodes_in, constants_in, refusal, answer};
 
 use crate::header::{HEADER, Header, MOST_CONSTANTS, RECORD};
-use crate::judge::first_refusal;
+use crate::judge::judge;
 use crate::levels::MOST_NODES;
 use crate::node::{BLANK, Node};
 use crate::refusal::Refusal;
@@ -82,9 +82,7 @@ impl Layout {
         let behind = HEADER + RECORD * header.nodes;
         let constants = header.constants;
         load(&bytes[HEADER..behind], records);
-        if let Some(refusal) = first_refusal(family, records, constants) {
-            return Err(refusal);
-        }
+        judge(family, records, constants)?;
         let mut numbers = [0; MOST_CONSTANTS];
         put_nodes(&mut self.nodes, records);
         put_constants(
@@ -102,9 +100,7 @@ impl Layout {
         ensures tree { TreeOf 16 self.new.nodes.items self.new.constants.items }
         ensures depth { DepthTold bytes.now result }
     {
-        let Some(header) = Header::of(bytes) else {
-            return Err(Refusal::Size);
-        };
+        let header = Header::of(bytes).ok_or(Refusal::Size)?;
         let count = header.nodes;
         let mut records = [UNREAD; MOST_NODES];
         self.load_records(family, bytes, header, &mut records[0..count])
