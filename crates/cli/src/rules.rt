@@ -34,7 +34,7 @@ impl From<Refusal> for RuleFault {
     }
 }
 
-// The rule for a width, or newline where there is none.
+// The rule for a width, or newline where there is none. (This and the next differ in every type and in what they make.)
 pub fn plain_rule(width: Option<usize>) -> Result<PlainRule, Refusal>
     ensures { MatchResult result (λ p. means_plain p ≡ plain_meaning width) (λ e. (e ≡ OutOfRange) × (PlainRange width → ⊥)) }
 {

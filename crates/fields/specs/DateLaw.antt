@@ -11,7 +11,7 @@ use Rattle.fields.specs.Digits.{run, value, padded, digits_at, all_at}
 use Rattle.fields.specs.Calendar.{is_date}
 use Rattle.fields.specs.Dates.{formed, year, month, day, date_tests, date_gives, date_spells, date}
 use Rattle.fields.specs.Fairs.{kind_lawful, refused, good}
-use Rattle.fields.specs.Runs.{padded_value, run_le, run_take, value_take, first_of}
+use Rattle.fields.specs.Runs.{padded_value, run_le, run_take, value_take, first_of, part_at}
 
 take_one : (i : ℕ) (bs : List ℕ) → i < length bs → take 1 (drop i bs) ≡ slice_index bs i ∷ []
 take_one i bs h = ap (take 1) (drop_more bs i 0 h)
@@ -84,6 +84,13 @@ no_date bs l h d = refused 2 (date_tests bs) (date_gives bs) Range (le-ltb (leng
 
 pub good_date : (bs : List ℕ) → 10 ≤ length bs → formed bs ≡ true → is_date (year bs) (month bs) (day bs) ≡ true → ◌≡◌ {A = Reading} (Ok (date_gives bs)) (date.reads bs)
 good_date bs l h d = good (date_tests bs) (date_gives bs) (le-ltb (length bs) 10 l, (not_from_true (formed bs) h, (not_from_true _ d, tt)))
+
+-- the parts of a date at their places
+pub all_at_lem : (bs : List ℕ) (start k n at : ℕ) → at ≡ start + k → all_at at n bs ≡ all_at k n (drop start bs)
+all_at_lem bs start k n at e = ap (λ x. nat_le n (run x)) (part_at bs start k at e)
+
+pub value_at : (bs : List ℕ) (start k n at : ℕ) → at ≡ start + k → value (digits_at at n bs) ≡ value (digits_at k n (drop start bs))
+value_at bs start k n at e = ap (λ x. value (take n x)) (part_at bs start k at e)
 
 -- the parts of a date, where they stand
 pub record Parts (bs : List ℕ) (y m d : ℕ) : Type 0 where

@@ -27,3 +27,4 @@ pub mod AmountLaw
 pub mod TextLaw
 pub mod DateLaw
 pub mod BigBytes
+pub mod Writes

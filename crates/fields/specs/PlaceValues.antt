@@ -23,7 +23,7 @@ module _ (base : ℕ) (worth byte : ℕ → ℕ) where
   number_push n (c ∷ bs) b = number_push (n * base + worth c) bs b
 
   -- below the base to the power of the count of places
-  number_below : (n m : ℕ) (bs : List ℕ) → Each bs → n < base ^ m → number_on base worth n bs < base ^ (m + length bs)
+  pub number_below : (n m : ℕ) (bs : List ℕ) → Each bs → n < base ^ m → number_on base worth n bs < base ^ (m + length bs)
   number_below n m [] h k = rw add-zero k
   number_below n m (b ∷ bs) h k =
       let l : m + suc (length bs) ≡ suc m + length bs = omega arith in

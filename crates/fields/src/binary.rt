@@ -103,6 +103,7 @@ impl Family for Binary {
         Ok((field.len(), known.number(field)))
     }
 
+    // (This and the next stand alike in `Ascii`: each is one call of what is shared, and a trait for both would be longer.)
     fn spelled_length(&self, kind: Kind, number: i64) -> usize
         ensures { result ≡ length ((binary_means kind.code kind.parameter).spells number) }
     {

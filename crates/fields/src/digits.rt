@@ -19,7 +19,7 @@ pub(crate) fn value<const BASE: u64, const FIRST: u8>(bytes: &[u8]) -> u64
     ensures below { result < BASE ^ length bytes.now }
 {
     let mut n = 0;
-    // no fold: that a sum stays small hangs on all bytes so far, which a closure does not know
+    // tried fold: that a sum stays small hangs on all bytes so far, which a closure does not know
     for byte in bytes {
         n = n * BASE + u64::from(*byte - FIRST);
     }
@@ -51,7 +51,7 @@ pub(crate) fn fill<const BASE: u64, const FIRST: u8>(n: u64, out: &mut [u8])
     ensures { out.new ≡ places_from BASE FIRST (length out.old) n }
 {
     let mut left = n;
-    // no iter_mut().rev(): a proof knows nothing of what is written through it
+    // tried iter_mut().rev(): a proof knows nothing of what is written through an adapter
     for i in (0..out.len()).rev() {
         out[i] = FIRST + (left % BASE) as u8;
         left /= BASE;

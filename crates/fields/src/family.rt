@@ -44,7 +44,7 @@ pub trait Family {
         ensures answer { result ≡ (means self.now kind.code kind.parameter).reads (unread cursor.old) }
         ensures place { Moved result cursor.old cursor.new };
 
-    // How many bytes a number is spelled with.
+    // How many bytes a number is spelled with. (A kind and a number stay two arguments: a kind is also sorted and read, without a number.)
     fn spelled_length(&self, kind: Kind, number: i64) -> usize
         ensures { result ≡ length ((means self.now kind.code kind.parameter).spells number) };
 

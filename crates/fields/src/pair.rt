@@ -27,6 +27,7 @@ impl<A: Family, B: Family> Pair<A, B> {
     }
 }
 
+// (Which half has a kind is asked in four calls: a value that holds either half with its kind would need as many cases to be taken apart.)
 impl<A: Family, B: Family> Family for Pair<A, B> {
     ghost means = { λ s. pair_means (A.Family.means s.first) (B.Family.means s.second) };
 

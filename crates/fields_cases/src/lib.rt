@@ -5,7 +5,7 @@ use fields::cause::Sort;
 use fields::cursor::Cursor;
 use fields::family::{Family, Kind};
 
-// A kind on some bytes, and what reading gives: the field's length and number, or the cause's number, as the rules give it, so that the numbers are tested too.
+// A kind on some bytes, and what reading gives: the field's length and number, or the cause's number, as the rules give it and as the tables have always had it.
 #[derive(Clone, Copy)]
 pub struct Case {
     pub kind: Kind,

@@ -137,7 +137,7 @@ pub(crate) fn any_outside(constants: usize, nodes: &[NodeRecord]) -> bool
     nodes.iter().any(|node| is_outside(constants, node))
 }
 
-// Whether a parameter is a right side: a column, or one of the constants.
+// Whether a parameter is a right side: a column, or one of the constants, by their numbers in a file.
 fn is_side(constants: usize, parameter: u8) -> bool
     ensures { result ≡ is_side 32 constants parameter }
 {

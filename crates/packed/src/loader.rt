@@ -18,7 +18,7 @@ pub fn load<T: Packed + Copy>(bytes: &[u8], out: &mut [T]) -> usize
 {
     let (pieces, _) = bytes.as_chunks::<8>();
     let count = pieces.len().min(out.len());
-    // no zip over out.iter_mut(): a proof knows nothing of what is written through it
+    // tried zip over out.iter_mut(): a proof knows nothing of what is written through an adapter
     for (i, piece) in pieces[..count].iter().enumerate() {
         out[i] = T::unpack(piece);
     }

@@ -7,7 +7,7 @@ use crate::eight::{bytes_of, number};
 use crate::loader::Packed;
 
 // Node numbers have 16 bits here; how many the packed form has is known only in this file and in the widths that it cites.
-// All fields stay numbers, as the eight bytes have them: they may name no shape, a child or next of 0 is none only where a shape allows one, and what kind and parameter are hangs on the shape. That is for the layout to judge.
+// All fields stay numbers, as the eight bytes have them: they may name no shape, a child or next of 0 is none only where a shape allows one, and what kind and parameter are hangs on the shape. That is for the layout to judge, each refusal on all nodes before the next, which an enum here would forestall.
 #[derive(Clone, Copy, PartialEq, Eq, Debug)]
 pub struct NodeRecord {
     pub shape: u8,

@@ -9,6 +9,6 @@ pub struct Line {
     pub outcome: Outcome,
     pub start: usize,
     pub length: usize,
-    // a field's number, the branch or the part that was taken, or a cause, as docs/REPORTS.md has it for each shape and outcome
+    // a field's number, the branch or the part that was taken, or a cause: one number in every line, as the rules of reading and the records of a report have it (docs/REPORTS.md)
     pub number: i64,
 }
