@@ -22,7 +22,8 @@ impl Report {
             lines,
             text,
             faults: 0,
-            frame: 0,
+            row_length: 0,
+            frame_length: 0,
         })
     }
 
@@ -33,6 +34,7 @@ impl Report {
         self.lines.clear();
         self.text.clear();
         self.faults = 0;
-        self.frame = 0;
+        self.row_length = 0;
+        self.frame_length = 0;
     }
 }
