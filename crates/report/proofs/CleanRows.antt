@@ -13,9 +13,10 @@ use Rattle.report.specs.Recovery.{OpenReading}
 use Rattle.report.specs.Readings.{open_reading}
 use Rattle.report.specs.Reports.{row_lines, row_read, report, fault_count}
 use Rattle.report.specs.Meets.{none, nothing_left, meets}
+use Rattle.report.specs.Standing.{left_by}
 use Rattle.report.proofs.Agree.{faults_append, Agrees, agrees}
 use Rattle.report.proofs.Tables.{tree_fits}
-use Rattle.report.proofs.MeetLaws.{left_by, trial_meets}
+use Rattle.report.proofs.MeetLaws.{trial_meets}
 
 -- behind a clean root: bytes left are a fault
 end_clean : (row : List ℕ) (ls : List Line) (q : ℕ) → faults ls ≡ 0 → (b : Bool) → ltb q (length row) ≡ b →

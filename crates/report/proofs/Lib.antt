@@ -10,5 +10,6 @@ pub mod Steps
 pub mod PrintLaws
 pub mod CheckLaws
 pub mod ToldApart
+pub mod AcceptedFiles
 pub mod PlaceLaws
 pub mod ReachLaws

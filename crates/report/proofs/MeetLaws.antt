@@ -12,23 +12,19 @@ use Rattle.report.specs.Checks.{checked}
 use Rattle.report.specs.Leaves.{mark_reads}
 use Rattle.report.specs.Trials.{Trial, clean, given_up, leaf_tried, check_tried, at_least, behind, under, and_then, or_else, or_absent, trial, trials, branches}
 use Rattle.report.specs.Meets.{Left, leaves, leaf_meets, check_meets, then_meets, else_meets, part_meets, all_meet, some_meets}
+use Rattle.report.specs.Standing.{left_by}
 use Rattle.report.proofs.Fits.{Fits, AllFit}
 use Rattle.report.proofs.ValueLaws.{values_append, Bare, bare_more, bare_before}
 
 module _ (nodes : List Node) (row : List ℕ) where
-  -- what a trial behind the lines pre leaves
-  abbrev pub left_by : List Line → Trial → Option Left
-  left_by pre (clean ls q r) = Some (leaves (drop q row) (values nodes (pre ++ ls)))
-  left_by pre (given_up r) = None
-
   leaf_leaves : (i : ℕ) (c : Option ℕ) (pre : List Line) (p : ℕ) (r : Reading) → column_of (node_at nodes i).shape ≡ c →
-      left_by pre (leaf_tried i pre p r) ≡ leaf_meets c (drop p row) (values nodes pre) r
+      left_by nodes row pre (leaf_tried i pre p r) ≡ leaf_meets c (drop p row) (values nodes pre) r
   leaf_leaves i c pre p (Ok x) e =
       ap₂ (λ bs vs. Some (leaves bs vs)) (sym (drop-drop x.0 p row))
       (values_append nodes pre (line i Good p x.0 x.1 ∷ []) ∙ ap (λ k. values nodes pre ++ (entry k x.1 ++ [])) e ∙ ap (λ vs. values nodes pre ++ vs) (append-nil (entry c x.1)))
   leaf_leaves i c pre p (Err k) e = refl
 
-  check_leaves : (i : ℕ) (pre : List Line) (p : ℕ) (o : Outcome) → Bare nodes i → left_by pre (check_tried i pre p o) ≡ check_meets (drop p row) (values nodes pre) o
+  check_leaves : (i : ℕ) (pre : List Line) (p : ℕ) (o : Outcome) → Bare nodes i → left_by nodes row pre (check_tried i pre p o) ≡ check_meets (drop p row) (values nodes pre) o
   check_leaves i pre p Good h = ap (λ vs. Some (leaves (drop p row) vs)) (bare_more nodes pre (line i Good p 0 (pos 0)) h)
   check_leaves i pre p SyntaxFault h = refl
   check_leaves i pre p CheckFault h = refl
@@ -38,30 +34,30 @@ module _ (nodes : List Node) (row : List ℕ) where
   check_leaves i pre p Scrap h = ap (λ vs. Some (leaves (drop p row) vs)) (bare_more nodes pre (line i Scrap p 0 (pos 0)) h)
 
   -- under its own line a trial leaves what it leaves behind the begun one
-  under_leaves : (i : ℕ) (pre : List Line) (p : ℕ) (n : ℤ) (t : Trial) → Bare nodes i → left_by pre (under i p n t) ≡ left_by (pre ++ begun i p ∷ []) t
+  under_leaves : (i : ℕ) (pre : List Line) (p : ℕ) (n : ℤ) (t : Trial) → Bare nodes i → left_by nodes row pre (under i p n t) ≡ left_by nodes row (pre ++ begun i p ∷ []) t
   under_leaves i pre p n (clean ls q r) h = ap (λ vs. Some (leaves (drop q row) vs)) (bare_before nodes pre (line i Good p (q - p) n) (begun i p) ls h h)
   under_leaves i pre p n (given_up r) h = refl
 
-  raised_leaves : (pre : List Line) (r : ℕ) (t : Trial) → left_by pre (at_least r t) ≡ left_by pre t
+  raised_leaves : (pre : List Line) (r : ℕ) (t : Trial) → left_by nodes row pre (at_least r t) ≡ left_by nodes row pre t
   raised_leaves pre r (clean ls q s) = refl
   raised_leaves pre r (given_up s) = refl
 
-  else_leaves : (pre : List Line) (t u : Trial) → left_by pre (or_else t u) ≡ else_meets (left_by pre t) (left_by pre u)
+  else_leaves : (pre : List Line) (t u : Trial) → left_by nodes row pre (or_else t u) ≡ else_meets (left_by nodes row pre t) (left_by nodes row pre u)
   else_leaves pre (clean ls q r) u = refl
   else_leaves pre (given_up r) u = raised_leaves pre r u
 
   absent_leaves : (i : ℕ) (pre : List Line) (p : ℕ) (t : Trial) → Bare nodes i →
-      left_by pre (or_absent i p t) ≡ else_meets (left_by pre t) (Some (leaves (drop p row) (values nodes pre)))
+      left_by nodes row pre (or_absent i p t) ≡ else_meets (left_by nodes row pre t) (Some (leaves (drop p row) (values nodes pre)))
   absent_leaves i pre p (clean ls q r) h = refl
   absent_leaves i pre p (given_up r) h = ap (λ vs. Some (leaves (drop p row) vs)) (bare_more nodes pre (line i Absent p 0 (pos 0)) h)
 
-  behind_leaves : (pre ls : List Line) (t : Trial) → left_by pre (behind ls t) ≡ left_by (pre ++ ls) t
+  behind_leaves : (pre ls : List Line) (t : Trial) → left_by nodes row pre (behind ls t) ≡ left_by nodes row (pre ++ ls) t
   behind_leaves pre ls (clean ms q r) = ap (λ k. Some (leaves (drop q row) (values nodes k))) (sym (append_assoc pre ls ms))
   behind_leaves pre ls (given_up r) = refl
 
   then_leaves : (pre : List Line) (t : Trial) (rest : List Line → ℕ → Trial) (more : List ℕ → List Value → Option Left) →
-      ((l : List Line) (q : ℕ) → left_by l (rest l q) ≡ more (drop q row) (values nodes l)) →
-      left_by pre (and_then pre t rest) ≡ then_meets (left_by pre t) more
+      ((l : List Line) (q : ℕ) → left_by nodes row l (rest l q) ≡ more (drop q row) (values nodes l)) →
+      left_by nodes row pre (and_then pre t rest) ≡ then_meets (left_by nodes row pre t) more
   then_leaves pre (clean ls q r) rest more f =
       raised_leaves pre r (behind ls (rest (pre ++ ls) q)) ∙ behind_leaves pre ls (rest (pre ++ ls) q) ∙ f (pre ++ ls) q
   then_leaves pre (given_up r) rest more f = refl

@@ -1,5 +1,5 @@
 -- The lines of a reading, printed with their kept text, are the bytes that it took; of a whole row, the row.
-use Rattle.std.proofs.Common.{◌≡◌, ℕ, zero, suc, ◌+◌, ◌-◌, ◌<◌, ◌≤◌, Bool, true, false, cond, ltb, List, [], ◌∷◌, ◌++◌, length, get_or, take, drop, ℤ, pos, Some, None, Option, sym, refl, ap, ◌∙◌, subst, ap₂, append_assoc, append-nil, zero-le, arith, length-drop, take-append-drop, get_or-drop, drop-drop}
+use Rattle.std.proofs.Common.{◌≡◌, ℕ, zero, suc, ◌+◌, ◌-◌, ◌<◌, ◌≤◌, Bool, true, false, cond, ltb, List, [], ◌∷◌, ◌++◌, length, get_or, take, drop, ℤ, pos, Some, None, Option, sym, refl, ap, ◌∙◌, subst, ap₂, append_assoc, append-nil, zero-le, add-zero, arith, length-append, length-drop, take-append-drop, get_or-drop, drop-drop}
 use Rattle.std.specs.List.{AllByRecursion}
 use Rattle.std.proofs.ByRecursion.{All-append}
 use Rattle.std.proofs.lemmas.List.{drop_all, take_at, drop_at, length-take-le}
@@ -64,20 +64,44 @@ module _ (means : ℕ → ℕ → Meaning) (nodes : List Node) (row : List ℕ) 
       ∙ ap₂ (λ a b. bytes_from means (source_of means nodes l) l.number a ++ printed means nodes ls b) (take_at text rest n long) (drop_at text rest n long)
       ∙ ap (λ t. stand l ++ t) (printed_kept ls more h.1)
 
+  -- each line starts where the bytes before it end, the first at p
+  abbrev StartFrom : ℕ → List Line → Type 0
+  StartFrom p [] = Unit {0}
+  StartFrom p (l ∷ ls) = (l.start ≡ p) × StartFrom (p + length (stand l)) ls
+
+  join_starts : (ls ms : List Line) (p q : ℕ) → q ≡ p + length (stands ls) → StartFrom p ls → StartFrom q ms → StartFrom p (ls ++ ms)
+  join_starts [] ms p q e h k = subst (λ n. StartFrom n ms) (e ∙ add-zero p) k
+  join_starts (l ∷ ls) ms p q e h k =
+      (h.0, join_starts ls ms (p + length (stand l)) q (omega (arith, e, length-append (stand l) (stands ls))) h.1 k)
+
+  start_at : (above : List Line) (l : Line) (below : List Line) (p : ℕ) → StartFrom p (above ++ l ∷ below) → l.start ≡ p + length (stands above)
+  start_at [] l below p h = h.0 ∙ sym (add-zero p)
+  start_at (a ∷ above) l below p h =
+      start_at above l below (p + length (stand a)) h.1 ∙ omega (arith, length-append (stand a) (stands above))
+
+  sound_front : (above below : List Line) → AllByRecursion Sound (above ++ below) → AllByRecursion Sound above
+  sound_front [] below h = tt
+  sound_front (a ∷ above) below h = (h.0, sound_front above below h.1)
+
   -- lines that stand for the bytes from p to q
   record Covers (ls : List Line) (p q : ℕ) : Type 0 where
+    from : p ≤ length row
+    starts : StartFrom p ls
     same : stands ls ++ drop q row ≡ drop p row
     sound : AllByRecursion Sound ls
     within : q ≤ length row
 
   -- one line
-  one_covers : (l : Line) (p q : ℕ) → stand l ++ drop q row ≡ drop p row → Sound l → q ≤ length row → Covers (l ∷ []) p q
-  one_covers l p q e s w = record { same = ap (λ t. t ++ drop q row) (append-nil (stand l)) ∙ e; sound = (s, tt); within = w }
+  one_covers : (l : Line) (p q : ℕ) → l.start ≡ p → stand l ++ drop q row ≡ drop p row → Sound l → p ≤ length row → q ≤ length row → Covers (l ∷ []) p q
+  one_covers l p q b e s f w = record { from = f; starts = (b, tt); same = ap (λ t. t ++ drop q row) (append-nil (stand l)) ∙ e; sound = (s, tt); within = w }
 
   -- a line without bytes, before lines that cover
-  quiet_covers : (l : Line) (ls : List Line) (p q : ℕ) → source_of means nodes l ≡ nothing → Covers ls p q → Covers (l ∷ ls) p q
-  quiet_covers l ls p q e c =
+  quiet_covers : (l : Line) (ls : List Line) (p q : ℕ) → l.start ≡ p → source_of means nodes l ≡ nothing → Covers ls p q → Covers (l ∷ ls) p q
+  quiet_covers l ls p q b e c =
+      let none : length (stand l) ≡ 0 = ap (λ s. length (bytes_from means s l.number (take (share s l.length) (drop l.start row)))) e in
       record {
+        from = c.from;
+        starts = (b, subst (λ n. StartFrom n ls) (let z : p ≡ p + length (stand l) = omega (arith, none) in z) c.starts);
         same = ap (λ s. (bytes_from means s l.number (take (share s l.length) (drop l.start row)) ++ stands ls) ++ drop q row) e ∙ c.same;
         sound = (subst (λ s. share s l.length ≤ length (drop l.start row)) (sym e) zero-le, c.sound);
         within = c.within;
@@ -85,22 +109,25 @@ module _ (means : ℕ → ℕ → Meaning) (nodes : List Node) (row : List ℕ) 
 
   join_covers : (ls ms : List Line) (p q r : ℕ) → Covers ls p q → Covers ms q r → Covers (ls ++ ms) p r
   join_covers ls ms p q r c d =
+      let n : q ≡ p + length (stands ls) = omega (arith, c.from, c.within, length-append (stands ls) (drop q row), ap length c.same, length-drop p row, length-drop q row) in
       record {
+        from = c.from;
+        starts = join_starts ls ms p q n c.starts d.starts;
         same = ap (λ t. t ++ drop r row) (stands_append ls ms) ∙ append_assoc (stands ls) (stands ms) (drop r row) ∙ ap (λ t. stands ls ++ t) d.same ∙ c.same;
         sound = All-append Sound ls ms c.sound d.sound;
         within = d.within;
       }
 
   none_covers : (p : ℕ) → p ≤ length row → Covers [] p p
-  none_covers p h = record { same = refl; sound = tt; within = h }
+  none_covers p h = record { from = h; starts = tt; same = refl; sound = tt; within = h }
 
   -- n bytes from p on
   part_of : (p n : ℕ) → take n (drop p row) ++ drop (p + n) row ≡ drop p row
   part_of p n = ap (λ t. take n (drop p row) ++ t) (sym (drop-drop n p row)) ∙ take-append-drop n (drop p row)
 
-  text_covers : (l : Line) (p n : ℕ) → stand l ≡ take n (drop p row) → Sound l → n ≤ length (drop p row) → p ≤ length row → Covers (l ∷ []) p (p + n)
-  text_covers l p n e s w h =
-      one_covers l p (p + n) (ap (λ t. t ++ drop (p + n) row) e ∙ part_of p n) s (omega (arith, length-drop p row))
+  text_covers : (l : Line) (p n : ℕ) → l.start ≡ p → stand l ≡ take n (drop p row) → Sound l → n ≤ length (drop p row) → p ≤ length row → Covers (l ∷ []) p (p + n)
+  text_covers l p n b e s w h =
+      one_covers l p (p + n) b (ap (λ t. t ++ drop (p + n) row) e ∙ part_of p n) s h (omega (arith, length-drop p row))
 
   scrap_covers : (i p j : ℕ) → p ≤ j → j ≤ length row → Covers (scrap i p j) p j
   scrap_covers i p j h w = go (ltb p j) refl
@@ -108,15 +135,15 @@ module _ (means : ℕ → ℕ → Meaning) (nodes : List Node) (row : List ℕ) 
       go : (b : Bool) → ltb p j ≡ b → Covers (cond b (line i Scrap p (j - p) (pos 0) ∷ []) []) p j
       go true e =
           subst (λ k. Covers (line i Scrap p (j - p) (pos 0) ∷ []) p k) (let z : p + (j - p) ≡ j = omega arith in z)
-          (text_covers (line i Scrap p (j - p) (pos 0)) p (j - p) refl (omega (arith, length-drop p row)) (omega (arith, length-drop p row)) (omega arith))
+          (text_covers (line i Scrap p (j - p) (pos 0)) p (j - p) refl refl (omega (arith, length-drop p row)) (omega (arith, length-drop p row)) (omega arith))
       go false e = subst (λ k. Covers [] p k) (let z : p ≡ j = omega (arith, ltb-false p j e) in z) (none_covers p (omega arith))
 
   mark_covers : (i b p : ℕ) → Has nodes i (Mark b) → Stands row b p → Covers (line i Good p 1 (pos 0) ∷ []) p (p + 1)
   mark_covers i b p h e =
       let s : source_of means nodes (line i Good p 1 (pos 0)) ≡ the_byte b = ap (shape_source means) h in
-      one_covers (line i Good p 1 (pos 0)) p (p + 1)
+      one_covers (line i Good p 1 (pos 0)) p (p + 1) refl
       (ap (λ x. bytes_from means x (pos 0) (take (share x 1) (drop p row)) ++ drop (p + 1) row) s ∙ sym e)
-      (subst (λ x. share x 1 ≤ length (drop p row)) (sym s) zero-le) (omega (arith, stands_below row b p e))
+      (subst (λ x. share x 1 ≤ length (drop p row)) (sym s) zero-le) (omega (arith, stands_below row b p e)) (omega (arith, stands_below row b p e))
 
   -- a field that was read, by the sort of its kind
   field_covers : (i kind parameter : ℕ) (column : Option ℕ) (p n : ℕ) (z : ℤ) → Has nodes i (Field (record { code = kind; parameter = parameter }) column) → p ≤ length row → n ≤ length (drop p row) →
@@ -128,11 +155,11 @@ module _ (means : ℕ → ℕ → Meaning) (nodes : List Node) (row : List ℕ) 
       go Unknown e = absurd (known e)
       go Numeric e =
           let s : source_of means nodes (line i Good p n z) ≡ spelling kind parameter = ap (shape_source means) h ∙ ap (λ t. field_source t kind parameter) e in
-          text_covers (line i Good p n z) p n (ap (λ x. bytes_from means x z (take (share x n) (drop p row))) s ∙ spelled e)
+          text_covers (line i Good p n z) p n refl (ap (λ x. bytes_from means x z (take (share x n) (drop p row))) s ∙ spelled e)
           (subst (λ x. share x n ≤ length (drop p row)) (sym s) zero-le) fits w
       go Kept e =
           let s : source_of means nodes (line i Good p n z) ≡ kept_text = ap (shape_source means) h ∙ ap (λ t. field_source t kind parameter) e in
-          text_covers (line i Good p n z) p n (ap (λ x. bytes_from means x z (take (share x n) (drop p row))) s)
+          text_covers (line i Good p n z) p n refl (ap (λ x. bytes_from means x z (take (share x n) (drop p row))) s)
           (subst (λ x. share x n ≤ length (drop p row)) (sym s) fits) fits w
 
   -- nodes with others below them, and checks, have no bytes of their own
@@ -158,7 +185,7 @@ module _ (means : ℕ → ℕ → Meaning) (nodes : List Node) (row : List ℕ) 
   early_covers false p h = go (ltb p (length row))
     where
       go : (b : Bool) → Covers (cond b (line 0 SyntaxFault p 0 (pos 6) ∷ []) []) p p
-      go true = quiet_covers (line 0 SyntaxFault p 0 (pos 6)) [] p p refl (none_covers p h)
+      go true = quiet_covers (line 0 SyntaxFault p 0 (pos 6)) [] p p refl refl (none_covers p h)
       go false = none_covers p h
 
   row_covers : (d : OpenReading) → Covers d.lines 0 d.place → Covers (row_read row d).lines 0 (length row)
@@ -191,22 +218,32 @@ module _ (means : ℕ → ℕ → Meaning) (nodes : List Node) (constants : List
         field_covers means nodes row i k a c p n z h w ((lawful k a).within (drop p row) n z (bytes_from_lem p) e) ((lawful k a).spelled (drop p row) n z (bytes_from_lem p) e)
         (subst (KnownShape means) h (known_node i));
     good_mark = λ i b pre p h e w. mark_covers means nodes row i b p h e;
-    fault = λ i pre p z h w. quiet_covers means nodes row (line i SyntaxFault p 0 z) [] p p refl (none_covers means nodes row p w);
+    fault = λ i pre p z h w. quiet_covers means nodes row (line i SyntaxFault p 0 z) [] p p refl refl (none_covers means nodes row p w);
     check_line = λ i r a s pre p h w.
         let vs = values nodes pre in
         let o = checked r a (operand_of constants s) vs in
-        quiet_covers means nodes row (line i o p 0 (pos 0)) [] p p
+        quiet_covers means nodes row (line i o p 0 (pos 0)) [] p p refl
         (check_quiet means nodes row r (latest a vs) (side_value (operand_of constants s) vs) (node_at nodes i).shape (ap (shape_source means) h))
         (none_covers means nodes row p w);
-    absent = λ i c pre p h w. quiet_covers means nodes row (line i Absent p 0 (pos 0)) [] p p refl (none_covers means nodes row p w);
-    passed = λ i pre p w. quiet_covers means nodes row (skipped i p) [] p p refl (none_covers means nodes row p w);
+    absent = λ i c pre p h w. quiet_covers means nodes row (line i Absent p 0 (pos 0)) [] p p refl refl (none_covers means nodes row p w);
+    passed = λ i pre p w. quiet_covers means nodes row (skipped i p) [] p p refl refl (none_covers means nodes row p w);
     loose = λ i b pre p j h le e w. scrap_covers means nodes row i p j le (omega (arith, stands_below row b j e));
-    own = λ i pre ls p q z h c w. quiet_covers means nodes row (line i Good p (q - p) z) ls p q (inner_quiet means nodes row (node_at nodes i).shape h) (c w);
-    own_faulty = λ i pre ls p q h c w. quiet_covers means nodes row (line i FaultBelow p (q - p) (pos 0)) ls p q refl (c w);
+    own = λ i pre ls p q z h c w. quiet_covers means nodes row (line i Good p (q - p) z) ls p q refl (inner_quiet means nodes row (node_at nodes i).shape h) (c w);
+    own_faulty = λ i pre ls p q h c w. quiet_covers means nodes row (line i FaultBelow p (q - p) (pos 0)) ls p q refl refl (c w);
   }
 
+  whole_covers : Covers means nodes row (whole_read means nodes constants row).lines 0 (length row)
+  whole_covers =
+      row_covers means nodes row (open_reading means nodes row (tree_of nodes constants) [] 0)
+      (reading_keeps means nodes constants row _ steps (tree_of nodes constants) [] 0 (tree_fits nodes constants) zero-le)
+
   pub prints_row : print means nodes (report means nodes constants row) ≡ row
-  prints_row =
-      covers_print means nodes row (whole_read means nodes constants row).lines
-      (row_covers means nodes row (open_reading means nodes row (tree_of nodes constants) [] 0)
-      (reading_keeps means nodes constants row _ steps (tree_of nodes constants) [] 0 (tree_fits nodes constants) zero-le))
+  prints_row = covers_print means nodes row (whole_read means nodes constants row).lines whole_covers
+
+  -- a line starts where those above it, printed, end
+  pub line_starts : (above below : List Line) (l : Line) → (report means nodes constants row).lines ≡ above ++ l ∷ below →
+      l.start ≡ length (printed means nodes above (kept means nodes row above))
+  line_starts above below l e =
+      let c : Covers means nodes row (above ++ l ∷ below) 0 (length row) = subst (λ ls. Covers means nodes row ls 0 (length row)) e whole_covers in
+      start_at means nodes row above l below 0 c.starts
+      ∙ omega (arith, ap length (sym (printed_kept means nodes row above [] (sound_front means nodes row above (l ∷ below) c.sound)) ∙ ap (printed means nodes above) (append-nil (kept means nodes row above))))

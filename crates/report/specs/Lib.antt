@@ -10,6 +10,7 @@ pub mod Readings
 pub mod Printing
 pub mod Reports
 pub mod Meets
+pub mod Standing
 pub mod Known
 pub mod Promises
 pub mod Worked
