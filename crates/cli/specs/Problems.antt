@@ -1,8 +1,9 @@
 -- The line that says what stopped a command.
 use Rattle.std.specs.Prelude.{ℕ, List, ◌++◌, codes, decimal}
 use Rattle.rows.specs.Refusals.{number_of, reason}
+use Rattle.layout.specs.Refusals.{number_of as layout_number_of, text_of}
 use Rattle.cli.specs.declared.problems.Problem.{Problem}
-use Rattle.cli.specs.declared.problems.Problem.TheVariants.{BadWords, NoCommand, WrongWords, NoRule, NoFamily, NoNumber, UnknownKind, Refused, Unreadable}
+use Rattle.cli.specs.declared.problems.Problem.TheVariants.{BadWords, NoCommand, WrongWords, NoRule, NoFamily, NoNumber, UnknownKind, Refused, RefusedLayout, Unreadable}
 
 abbrev pub problem_line : Problem → List ℕ
 problem_line (BadWords r) = codes "neskvaru: cannot read the words of the command: " ++ r.now
@@ -13,4 +14,5 @@ problem_line (NoFamily w) = codes "neskvaru: '" ++ (w.now ++ codes "' is no fami
 problem_line (NoNumber w) = codes "neskvaru: '" ++ (w.now ++ codes "' is no kind from 0 to 63, or no parameter from 0 to 255")
 problem_line (UnknownKind f) = codes "neskvaru: the family '" ++ (f.now ++ codes "' does not know this kind with this parameter")
 problem_line (Refused e w) = codes "neskvaru: refused, number " ++ (decimal (number_of e) ++ (codes ": " ++ (reason e ++ (codes ": '" ++ (w.now ++ codes "'")))))
+problem_line (RefusedLayout e w) = codes "neskvaru: refused, number " ++ (decimal (layout_number_of e) ++ (codes ": " ++ (text_of e ++ (codes ": '" ++ (w.now ++ codes "'")))))
 problem_line (Unreadable w r) = codes "neskvaru: cannot read the file '" ++ (w.now ++ (codes "': " ++ r.now))

@@ -2,6 +2,7 @@
 ghost use Rattle.std.specs.Prelude.{Some};
 ghost use Rattle.cli.specs.Problems.{problem_line};
 
+use layout::refusal::Refusal as LayoutRefusal;
 use rows::refusal::Refusal;
 use std::fmt;
 
@@ -18,6 +19,8 @@ pub enum Problem<'a> {
     UnknownKind(&'a str),
     // what was refused
     Refused(Refusal, &'a str),
+    // why a layout file was refused, and its name
+    RefusedLayout(LayoutRefusal, &'a str),
     // a file's name, and the reason
     Unreadable(&'a str, &'a str),
 }
@@ -59,6 +62,10 @@ impl fmt::Display for Problem<'_> {
             Problem::Refused(refusal, what) => {
                 let number = refusal.number();
                 write!(f, "neskvaru: refused, number {number}: {refusal}: '{what}'")
+            }
+            Problem::RefusedLayout(refusal, name) => {
+                let number = refusal.number();
+                write!(f, "neskvaru: refused, number {number}: {refusal}: '{name}'")
             }
             Problem::Unreadable(name, reason) => {
                 write!(f, "neskvaru: cannot read the file '{name}': {reason}")

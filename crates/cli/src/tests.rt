@@ -6,6 +6,7 @@ use crate::problems::Problem;
 use crate::readings::Reading;
 use crate::rules::{RuleFault, rule_of};
 use fields::cause::Cause;
+use layout::refusal::Refusal as LayoutRefusal;
 use rows::newline::Newline;
 use rows::refusal::Refusal;
 use rows::rule::RowRule;
@@ -141,6 +142,12 @@ fn problems_are_told(rt: HostRuntime) -> Result<(), Fail> {
             .to_string(heap)?
             .as_str(),
         "neskvaru: refused, number 11: a width is not 1 to 4096, or a sample is not 0 to 16777216: 'fixed:0'"
+    );
+    assert_eq!(rt;
+        Problem::RefusedLayout(LayoutRefusal::Depth, "x.layout")
+            .to_string(heap)?
+            .as_str(),
+        "neskvaru: refused, number 7: a node lies too deep: 'x.layout'"
     );
     Ok(())
 }

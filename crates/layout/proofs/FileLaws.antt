@@ -1,7 +1,7 @@
 -- What loading a file of the right size gives.
-use Rattle.std.proofs.Common.{◌≡◌, ℕ, ◌+◌, ◌-◌, ◌*◌, Bool, true, false, cond, ◌||◌, List, [], ◌++◌, map, length, take, drop, None, sym, ap, ◌∙◌, arith}
+use Rattle.std.proofs.Common.{◌≡◌, ℕ, ◌+◌, ◌*◌, false, ◌||◌, List, map, length, take, drop, None, sym, ap, ◌∙◌, arith}
 use Rattle.std.proofs.lemmas.List.{length-take, length-drop}
-use Rattle.std.proofs.lemmas.Bool.{or_from, cond-true}
+use Rattle.std.proofs.lemmas.Bool.{or_from}
 use Rattle.std.specs.List.{list_any}
 use Rattle.fields.specs.declared.cause.Sort.{Sort}
 use Rattle.packed.specs.declared.record.NodeRecord.{NodeRecord}
@@ -19,25 +19,25 @@ use Rattle.layout.proofs.Any.{any_map}
 use Rattle.layout.proofs.Accepted.{passed, same_links, all_placed}
 
 module _ (bytes : List ℕ) (n k : ℕ) (sized : Sized bytes n k) where
-  node_bytes_long : length (take (2 + 8 * n - 2) (drop 2 bytes)) ≡ 8 * n
+  node_bytes_long : length (take (8 * n) (drop 2 bytes)) ≡ 8 * n
   node_bytes_long = let h = sized.long in simp (length-take, length-drop) (omega arith)
 
-  node_bytes_are : take (2 + 8 * n - 2) (drop 2 bytes) ≡ take (8 * node_count bytes) (drop 2 bytes)
-  node_bytes_are = let e : 2 + 8 * n - 2 ≡ 8 * node_count bytes = omega (arith, sized.nodes_are) in ap (λ m. take m (drop 2 bytes)) e
+  node_bytes_are : take (8 * n) (drop 2 bytes) ≡ take (8 * node_count bytes) (drop 2 bytes)
+  node_bytes_are = ap (λ m. take (8 * m) (drop 2 bytes)) sized.nodes_are
 
   -- the records that are loaded are those of the file
-  pub records_are : (out : List NodeRecord) → length out ≡ n → loaded (records unpacked (take (2 + 8 * n - 2) (drop 2 bytes))) out ≡ records_in bytes
+  pub records_are : (out : List NodeRecord) → length out ≡ n → loaded (records unpacked (take (8 * n) (drop 2 bytes))) out ≡ records_in bytes
   records_are out e =
-      loaded_exact unpacked (take (2 + 8 * n - 2) (drop 2 bytes)) out (node_bytes_long ∙ ap (λ m. 8 * m) (sym e)) ∙ ap (records unpacked) node_bytes_are
+      loaded_exact unpacked (take (8 * n) (drop 2 bytes)) out (node_bytes_long ∙ ap (λ m. 8 * m) (sym e)) ∙ ap (records unpacked) node_bytes_are
 
   pub records_count : length (records_in bytes) ≡ n
-  records_count = exact (records unpacked (take (2 + 8 * n - 2) (drop 2 bytes))) (ap (records unpacked) node_bytes_are) counted
+  records_count = exact (records unpacked (take (8 * n) (drop 2 bytes))) (ap (records unpacked) node_bytes_are) counted
     where
       exact : (rs : List NodeRecord) → rs ≡ records_in bytes → length rs ≡ n → length (records_in bytes) ≡ n
       exact rs e h = sym (ap length e) ∙ h
 
-      counted : length (records unpacked (take (2 + 8 * n - 2) (drop 2 bytes))) ≡ n
-      counted = length_records unpacked (take (2 + 8 * n - 2) (drop 2 bytes)) ∙ omega (arith, node_bytes_long)
+      counted : length (records unpacked (take (8 * n) (drop 2 bytes))) ≡ n
+      counted = length_records unpacked (take (8 * n) (drop 2 bytes)) ∙ omega (arith, node_bytes_long)
 
   pub constants_long : length (drop (2 + 8 * n) bytes) ≡ 8 * k
   constants_long = let h = sized.long in simp length-drop (omega arith)
@@ -65,7 +65,3 @@ nodes_hang sorts k rs h =
 
 pub nodes_placed : (sorts : ℕ → ℕ → Sort) (k : ℕ) (rs : List NodeRecord) → judged limits sorts k rs ≡ None → list_any (λ n. misplaced 32 k n.shape) (map node_of rs) ≡ false
 nodes_placed sorts k rs h = all_placed 32 k (omega arith) rs (passed limits sorts k rs h).0.inside
-
--- an empty list that is extended where there is room
-pub refilled : {X : Type 0} {xs ys zs all : List X} {ok : Bool} → all ≡ cond ok (xs ++ ys) xs → ok ≡ true → xs ≡ [] → ys ≡ zs → all ≡ zs
-refilled {xs = xs} {ys = ys} {ok = ok} e f g h = e ∙ cond-true ok (xs ++ ys) xs f ∙ ap (λ ws. ws ++ ys) g ∙ h

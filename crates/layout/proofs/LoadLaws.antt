@@ -1,5 +1,5 @@
 -- What an accepted file gives, and what the refusal of the depth says.
-use Rattle.std.proofs.Common.{◌≡◌, ℕ, zero, suc, ◌+◌, ◌-◌, ◌<◌, ◌≤◌, true, false, cond, ◌||◌, eqb, List, [], ◌∷◌, ◌++◌, map, length, ℤ, Some, None, Ok, Err, Option, Result, unwrap_or, sym, refl, ap, ◌∙◌, subst, inl, inr, append_assoc, arith, MatchResult}
+use Rattle.std.proofs.Common.{◌≡◌, ℕ, zero, suc, ◌+◌, ◌-◌, ◌<◌, ◌≤◌, true, false, cond, ◌||◌, eqb, List, [], ◌∷◌, ◌++◌, map, length, ℤ, Some, None, Ok, Err, Option, Result, unwrap_or, sym, refl, ap, ◌∙◌, subst, inl, inr, append_assoc, arith, MatchResult, vec_items}
 use Rattle.std.proofs.lemmas.Bool.{or_parts, both_ways, cases_lt, cond-false, cond_both, ne_eqb, false≢true}
 use Rattle.std.specs.List.{list_any}
 use Rattle.std.specs.Result.{is_err}
@@ -10,6 +10,7 @@ use Rattle.layout.specs.declared.node.Entry.{Entry}
 use Rattle.layout.specs.declared.node.Shape.TheVariants.{Mark}
 use Rattle.layout.specs.declared.refusal.Refusal.{Refusal}
 use Rattle.layout.specs.declared.refusal.Refusal.TheVariants.{Size, Bits, Links, Stranded, Kind, Range, Depth}
+use Rattle.layout.specs.declared.table.Layout.{Layout}
 use Rattle.layout.specs.Links.{Link, any_node, ill_linked, stranded, too_deep, hang_ill, Depths, Shallow, Deep, Depth as At, at_root, at_child, at_next}
 use Rattle.layout.specs.Shapes.{shape_of, node_of, links, links_in, is_unknown, unknown_by, unknown, KnownShape, Known}
 use Rattle.layout.specs.Trees.{node_at, child_number, next_number, parts_at, entry, outline_of, TreeOf}
@@ -31,6 +32,10 @@ sound_tree most nodes constants o h =
     let a = or_parts (any_node (ill_linked ls) ls) (any_node (stranded ls) ls || too_deep most ls) h in
     let b = or_parts (any_node (stranded ls) ls) (too_deep most ls) a.1 in
     tree_of_lem nodes constants (rising ls a.0) most o (once ls b.0) b.1
+
+-- so does every layout
+pub layout_tree : (l : Layout) → TreeOf 16 (vec_items l.nodes) (vec_items l.constants)
+layout_tree l = sound_tree 16 (vec_items l.nodes) (vec_items l.constants) (omega (arith, l.few.0, l.nodes.ok.0)) l.hangs
 
 module _ (sorts : ℕ → ℕ → Sort) where
   -- a record whose kind is known

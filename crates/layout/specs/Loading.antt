@@ -1,9 +1,10 @@
 -- What loading a layout file says and leaves.
-use Rattle.std.specs.Prelude.{◌≡◌, ℕ, List, ℤ, Ok, Err, Result}
+use Rattle.std.specs.Prelude.{◌≡◌, ℕ, List, ℤ, Ok, Err, Result, vec_capacity}
 use Rattle.fields.specs.declared.cause.Sort.{Sort}
 use Rattle.layout.specs.declared.node.Node.{Node}
 use Rattle.layout.specs.declared.refusal.Refusal.{Refusal}
 use Rattle.layout.specs.declared.refusal.Refusal.TheVariants.{Size, Bits, Links, Stranded, Kind, Range, Depth}
+use Rattle.layout.specs.declared.table.Layout.{Layout}
 use Rattle.layout.specs.Links.{Depths, Shallow, Deep}
 use Rattle.layout.specs.Shapes.{links_in, Known}
 use Rattle.layout.specs.Files.{records_in, nodes_in, constants_in}
@@ -13,6 +14,10 @@ pub record Loaded (sorts : ℕ → ℕ → Sort) (bytes : List ℕ) (nodes : Lis
   pub nodes_are : nodes ≡ nodes_in bytes
   pub constants_are : constants ≡ constants_in bytes
   pub known : Known sorts nodes
+
+-- the memory of a table is that of before
+abbrev pub RoomStays : Layout → Layout → Type 0
+RoomStays old new = (vec_capacity new.nodes ≡ vec_capacity old.nodes) × (vec_capacity new.constants ≡ vec_capacity old.constants)
 
 -- the refusal of the depth, among files that meet no earlier one: exactly where some node lies deeper than 16
 abbrev pub DepthTold : List ℕ → Result (Unit {0}) Refusal → Type 0

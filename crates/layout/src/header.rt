@@ -1,5 +1,5 @@
-// The beginning of a layout file: how many nodes and constants follow.
-ghost use Rattle.std.specs.Prelude.{◌≡◌, true, MatchOption};
+// The beginning of a layout file: how many nodes and constants follow, and where they stand.
+ghost use Rattle.std.specs.Prelude.{◌≡◌, ℕ, ◌+◌, ◌*◌, ◌<◌, true, List, length, take, drop, MatchOption};
 ghost use Rattle.layout.specs.Files.{wrong_size, Sized};
 
 use crate::levels::MOST_NODES;
@@ -8,10 +8,18 @@ use crate::levels::MOST_NODES;
 pub(crate) const MOST_CONSTANTS: usize = 64;
 
 // The two counts take a byte each.
-pub(crate) const HEADER: usize = 2;
+const HEADER: usize = 2;
 
 // A node or a constant takes eight bytes.
-pub(crate) const RECORD: usize = 8;
+const RECORD: usize = 8;
+
+// The most bytes that a layout file has.
+pub const LONGEST_FILE: usize = HEADER + RECORD * (MOST_NODES + MOST_CONSTANTS);
+
+// A file with more bytes is refused for its size, whatever they are: so nobody has to read further than one byte past the longest.
+pub fn longer_files()
+    ensures { (bytes : List ℕ) → 2114 < length bytes → wrong_size 200 64 bytes ≡ true }
+{}
 
 #[derive(Clone, Copy)]
 pub(crate) struct Header {
@@ -36,5 +44,14 @@ impl Header {
             return None;
         }
         Some(Header { nodes, constants })
+    }
+
+    // The packed nodes of a file with these counts, and its packed constants.
+    pub(crate) fn records<'f>(&self, bytes: &'f [u8]) -> (&'f [u8], &'f [u8])
+        requires { Sized bytes.now self.now.nodes self.now.constants }
+        ensures nodes { result.0.now ≡ take (8 * self.now.nodes) (drop 2 bytes.now) }
+        ensures constants { result.1.now ≡ drop (2 + 8 * self.now.nodes) bytes.now }
+    {
+        bytes[HEADER..].split_at(RECORD * self.nodes)
     }
 }

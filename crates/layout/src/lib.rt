@@ -2,7 +2,7 @@
 #![tactic(auto)]
 
 mod faults;
-mod header;
+pub mod header;
 mod judge;
 mod levels;
 pub mod node;

@@ -4,10 +4,12 @@
 mod failure;
 mod field_command;
 mod files;
+mod layout_command;
 mod rows_command;
 
 use crate::failure::Failure;
 use crate::field_command::read_field;
+use crate::layout_command::print_layout;
 use crate::rows_command::list_rows;
 use cli::problems::Problem;
 use std::env;
@@ -18,6 +20,7 @@ const HELP: &str = "neskvaru cuts a bank's export into rows and tells, row by ro
 
   neskvaru rows RULE FILE                  each row with its place, length and mark, the tail, and a summary
   neskvaru field FAMILY KIND P TEXT        what reading TEXT as a field of that kind gives, or why it cannot be read
+  neskvaru layout FAMILY LAYOUT            the tree of a layout file, one node a line, or why it is refused
 
 RULE is one of
   newline                  byte 0A ends a row; a closing row without it is a row all the same
@@ -29,7 +32,7 @@ FAMILY is one of
   binary                   kind 1 unsigned and 2 signed number of P bytes (1 to 4), 3 P bytes (1 to 255)
   pair:FAMILY:FAMILY       kinds 0 to 31 are the first family's, 32 to 63 the second's less 32
 
-A file has at most 16777216 bytes. A refusal is told on standard error, with status 1.
+A file of rows has at most 16777216 bytes. A refusal is told on standard error, with status 1.
 ";
 
 // Does what the words ask; the first is the program's own name.
@@ -45,7 +48,9 @@ fn run<'a>(rt: &HostRuntime, words: &'a [String]) -> Result<(), Failure<'a>> {
                 p.as_str(),
                 text.as_str(),
             )?,
+            ("layout", [family, file]) => print_layout(rt, family.as_str(), file.as_str())?,
             ("field", _) => return Err(Problem::WrongWords("field FAMILY KIND P TEXT").into()),
+            ("layout", _) => return Err(Problem::WrongWords("layout FAMILY LAYOUT").into()),
             ("rows", _) => return Err(Problem::WrongWords("rows RULE FILE").into()),
             (other, _) => return Err(Problem::NoCommand(other).into()),
         },

@@ -4,10 +4,10 @@ ghost use Rattle.packed.specs.Pieces.{records as records_of};
 ghost use Rattle.packed.specs.Constants.{constant_of};
 ghost use Rattle.layout.specs.Shapes.{node_of, sorts};
 ghost use Rattle.layout.specs.Trees.{blank, TreeOf};
-ghost use Rattle.layout.specs.Loading.{Loaded, DepthTold};
+ghost use Rattle.layout.specs.Loading.{Loaded, RoomStays, DepthTold};
 ghost use Rattle.layout.specs.Files.{Sized, nodes_in, constants_in, refusal, answer};
 
-use crate::header::{HEADER, Header, MOST_CONSTANTS, RECORD};
+use crate::header::{Header, MOST_CONSTANTS};
 use crate::judge::judge;
 use crate::levels::MOST_NODES;
 use crate::node::{BLANK, Node};
@@ -42,17 +42,27 @@ fn put_nodes(out: &mut Vec<Node>, records: &[NodeRecord])
     }
 }
 
-// Puts packed constants in the place of a table's; `numbers` has room for just these.
+// Puts items in the place of a list's own, for which there is room: `extend_from_slice` does not say that the room stays what it was.
+fn refill<T: Copy>(out: &mut Vec<T>, items: &[T])
+    requires { length items.now ≤ vec_capacity out.old }
+    ensures items { out.new.items ≡ items.now }
+    ensures capacity { vec_capacity out.new ≡ vec_capacity out.old }
+{
+    out.clear();
+    for item in items {
+        out.push_reserved(*item);
+    }
+}
+
+// Puts packed constants in the place of a table's, which has room for them; `numbers` has room for just these.
 fn put_constants(out: &mut Vec<i64>, bytes: &[u8], numbers: &mut [i64])
     requires fit { length bytes.now ≡ 8 * length numbers.old }
     requires room { length numbers.old ≤ vec_capacity out.old }
     ensures items { out.new.items ≡ records_of constant_of bytes.now }
-    ensures capacity { vec_capacity out.old ≤ vec_capacity out.new }
+    ensures capacity { vec_capacity out.new ≡ vec_capacity out.old }
 {
     load(bytes, numbers);
-    out.clear();
-    // there is room, so that this takes no memory and cannot fail
-    let _ = out.extend_from_slice(numbers);
+    refill(out, numbers);
 }
 
 impl Layout {
@@ -78,25 +88,26 @@ impl Layout {
         requires room { length records.old ≡ header.nodes }
         ensures value { result ≡ answer (refusal (sorts (F.Family.means family.now)) bytes.now) }
         ensures after { MatchResult result (λ _. (self.new.nodes.items ≡ nodes_in bytes.now) × (self.new.constants.items ≡ constants_in bytes.now)) (λ _. self.new ≡ self.old) }
+        ensures room { RoomStays self.old self.new }
     {
-        let behind = HEADER + RECORD * header.nodes;
-        let constants = header.constants;
-        load(&bytes[HEADER..behind], records);
-        judge(family, records, constants)?;
+        let (nodes, constants) = header.records(bytes);
+        load(nodes, records);
+        judge(family, records, header.constants)?;
         let mut numbers = [0; MOST_CONSTANTS];
         put_nodes(&mut self.nodes, records);
         put_constants(
             &mut self.constants,
-            &bytes[behind..],
-            &mut numbers[0..constants],
+            constants,
+            &mut numbers[0..header.constants],
         );
         Ok(())
     }
 
-    // Loads a file in the place of what was loaded before, or refuses it with the first refusal that applies and changes nothing. It takes no memory.
+    // Loads a file in the place of what was loaded before, or refuses it with the first refusal that applies and changes nothing. It takes no memory: the room of the table stays what it was.
     pub fn load<F: Family>(&mut self, family: &F, bytes: &[u8]) -> Result<(), Refusal>
         ensures value { result ≡ answer (refusal (sorts (F.Family.means family.now)) bytes.now) }
         ensures after { MatchResult result (λ _. Loaded (sorts (F.Family.means family.now)) bytes.now self.new.nodes.items self.new.constants.items) (λ _. self.new ≡ self.old) }
+        ensures room { RoomStays self.old self.new }
         ensures tree { TreeOf 16 self.new.nodes.items self.new.constants.items }
         ensures depth { DepthTold bytes.now result }
     {

@@ -1,13 +1,18 @@
 // Looking a table up: its nodes, its constants, and its tree.
 ghost use Rattle.std.specs.Prelude.{◌≡◌, ◌<◌, ◌≤◌, false, ◌++◌, length, IfOk, OnOk};
 ghost use Rattle.layout.specs.Shapes.{names_none};
-ghost use Rattle.layout.specs.Trees.{or_zero, node_at, parts_at, tree_of, outline as outline_from, outline_of};
+ghost use Rattle.layout.specs.Trees.{or_zero, node_at, parts_at, tree_of, outline as outline_from, outline_of, TreeOf};
 
 use crate::node::{BLANK, Entry, Node};
 use crate::table::Layout;
 use std::alloc::{AllocError, Global};
 
 impl Layout {
+    // Every table stands for one tree, whatever was loaded or refused: a law of the type, which runs nothing.
+    pub fn tree_law(&self)
+        ensures { TreeOf 16 self.now.nodes.items self.now.constants.items }
+    {}
+
     // The nodes by number; the first is node 1, the root.
     pub fn nodes(&self) -> &[Node]
         ensures { result.now ≡ self.now.nodes.items }

@@ -1,15 +1,10 @@
 -- The refusal of the size, and what follows once the size is right.
-use Rattle.std.proofs.Common.{vec_items, sym, subst, arith, rules}
-use Rattle.layout.specs.declared.table.Layout.{Layout}
+use Rattle.std.proofs.Common.{sym, subst, rules}
 use Rattle.layout.specs.Shapes.{sorts, Known}
-use Rattle.layout.specs.Trees.{TreeOf}
 use Rattle.layout.specs.Files.{Sized, refusal}
 use Rattle.layout.specs.Loading.{DepthTold}
-use Rattle.layout.proofs.LoadLaws.{sound_tree, depth_told, accepted_known, when_accepted}
+use Rattle.layout.proofs.LoadLaws.{layout_tree, depth_told, accepted_known, when_accepted}
 use Rattle.layout.proofs.table.Layout.load.Goals as goal
-
-layout_tree : (l : Layout) → TreeOf 16 (vec_items l.nodes) (vec_items l.constants)
-layout_tree l = sound_tree 16 (vec_items l.nodes) (vec_items l.constants) (omega (arith, l.few.0, l.nodes.ok.0)) l.hangs
 
 pub returns-in_err-header-clause-tree : goal.returns-in_err-header-clause-tree
 returns-in_err-header-clause-tree g c = layout_tree c.args.self.now
@@ -28,6 +23,7 @@ returns g c =
         constants_are = h.1;
         known = subst (Known knows) (sym h.0) (accepted_known knows bytes header.nodes header.constants sized e);
       });
+      room = c.load_records.ensures.room;
       tree = layout_tree c.load_records.new.self;
       depth = subst (DepthTold bytes) (sym value) (depth_told knows bytes header.nodes header.constants sized);
     }

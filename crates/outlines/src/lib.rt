@@ -1,0 +1,8 @@
+// The tree of a layout in words, one line for each node.
+#![tactic(auto)]
+
+pub mod line;
+#[cfg(test)]
+mod tests;
+pub mod tree;
+mod words;
