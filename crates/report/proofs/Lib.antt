@@ -8,6 +8,7 @@ pub mod CleanRows
 pub mod Marks
 pub mod Steps
 pub mod PrintLaws
+pub mod KeptLaws
 pub mod CheckLaws
 pub mod ToldApart
 pub mod AcceptedFiles

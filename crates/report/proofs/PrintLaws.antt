@@ -163,7 +163,7 @@ module _ (means : ℕ → ℕ → Meaning) (nodes : List Node) (row : List ℕ) 
           (subst (λ x. share x n ≤ length (drop p row)) (sym s) fits) fits w
 
   -- nodes with others below them, and checks, have no bytes of their own
-  inner_quiet : (s : Shape) → Inner s → shape_source means s ≡ nothing
+  pub inner_quiet : (s : Shape) → Inner s → shape_source means s ≡ nothing
   inner_quiet (Field kind column) h = absurd h
   inner_quiet (Mark byte) h = absurd h
   inner_quiet (Sequence child) h = refl

@@ -46,7 +46,7 @@ under_reaches : (i : ℕ) (pre : List Line) (p : ℕ) (z : ℤ) (t : Trial) → 
 under_reaches i pre p z (clean ls q r) h = omega (arith, length_push pre (begun i p))
 under_reaches i pre p z (given_up r) h = omega (arith, length_push pre (begun i p))
 
-part_reaches : (n : ℕ) (t : Trial) → PartReaches n t → Reaches n t
+pub part_reaches : (n : ℕ) (t : Trial) → PartReaches n t → Reaches n t
 part_reaches n (clean ls q r) h = h
 part_reaches n (given_up r) h = omega arith
 

@@ -1,0 +1,183 @@
+// Reading a row: the loop over the open nodes.
+ghost use Rattle.std.specs.Prelude.{◌≡◌, ◌+◌, ◌<◌, ◌≤◌, [], ◌++◌, length, vec_len, vec_capacity, MatchResult};
+ghost use Rattle.fields.specs.Laws.{Bytes};
+ghost use Rattle.report.specs.Reports.{row_lines};
+ghost use Rattle.store.specs.Stored.{Made, Framed, Cleared};
+ghost use Rattle.reader.specs.Refusals.{refusal, answer};
+
+use crate::open::Told;
+use crate::reader::keeping::count_faults;
+use crate::reader::{DEEPEST, Reader};
+use crate::refusal::Refusal;
+use crate::source::Source;
+use fields::family::Family;
+use layout::table::Layout;
+use report::line::Line;
+use report::outcome::Outcome;
+use rows::piece::Mark;
+use rows::rule::RowRule;
+use std::alloc::{AllocError, Global};
+use store::memory::Report;
+use store::memory::made::{LONGEST_ROW, MOST_LINES};
+
+// The number of a layout's root.
+const ROOT: u16 = 1;
+
+// More lines would have to stand at one time than a report has room for.
+#[derive(Drop)]
+struct Full;
+
+impl Reader {
+    ghost use Rattle.reader.specs.declared.refusal.Refusal.TheVariants.{TooManyLines};
+    ghost use Rattle.reader.specs.Turns.{raised};
+    ghost use Rattle.reader.specs.Models.{root_in, read_in, whole_in, broke};
+
+    // Reads the root, open, from the row's beginning; or more lines would have to stand at one time than may.
+    fn read_root<F: Family>(
+        &mut self,
+        source: &Source<F>,
+        lines: &mut Vec<Line>,
+    ) -> Result<(), Full>
+        requires bytes { Bytes source.now.row.now }
+        requires none { lines.old.items ≡ [] }
+        requires room { 514 ≤ vec_capacity lines.old }
+        ensures cases { MatchResult result (λ _. (read_in self.new lines.new.items ≡ root_in F.Family source.now) × (self.new.reach ≤ 512) × (self.new.place ≤ length source.now.row.now) × (length lines.new.items ≤ self.new.reach)) (λ _. 512 < (root_in F.Family source.now).reach) }
+        ensures capacity { vec_capacity lines.new ≡ vec_capacity lines.old }
+    {
+        self.stack.clear();
+        self.place = 0;
+        self.told = Told::Begin;
+        self.reach = 0;
+        self.begin(source, lines, false, ROOT);
+        while self.reach <= MOST_LINES {
+            let Some(f) = self.stack.pop() else {
+                return Ok(());
+            };
+            self.turn(source, lines, f);
+        }
+        Err(Full)
+    }
+
+    // The lines of the row itself, behind those of the root: bytes left are scrap, and a fault if the root ended unbroken.
+    fn end_row<F: Family>(&mut self, source: &Source<F>, lines: &mut Vec<Line>)
+        requires room { vec_len lines.old + 2 ≤ vec_capacity lines.old }
+        requires low { length lines.old.items ≤ self.old.reach }
+        ensures lines { lines.new.items ≡ lines.old.items ++ row_lines (broke self.old.told) self.old.place (length source.now.row.now) }
+        ensures reach { self.new.reach ≡ raised lines.old.items (length (row_lines (broke self.old.told) self.old.place (length source.now.row.now))) self.old.reach }
+        ensures capacity { vec_capacity lines.new ≡ vec_capacity lines.old }
+    {
+        let start = self.place;
+        let end = source.row.len();
+        let broke = matches!(self.told, Told::Fault | Told::Seek | Told::Skip);
+        if !broke && start < end {
+            self.write(
+                lines,
+                Line {
+                    node: 0,
+                    outcome: Outcome::SyntaxFault,
+                    start,
+                    length: 0,
+                    number: 6,
+                },
+            );
+        }
+        self.write_scrap(lines, 0, end);
+    }
+
+    // Writes the lines of a row's report; or more lines would have to stand at one time than may.
+    fn write_lines<F: Family>(
+        &mut self,
+        source: &Source<F>,
+        lines: &mut Vec<Line>,
+    ) -> Result<(), Full>
+        requires bytes { Bytes source.now.row.now }
+        requires none { lines.old.items ≡ [] }
+        requires room { 514 ≤ vec_capacity lines.old }
+        ensures cases { MatchResult result (λ _. (lines.new.items ≡ (whole_in F.Family source.now).lines) × ((whole_in F.Family source.now).reach ≤ 512) × (length lines.new.items ≤ 512)) (λ _. 512 < (whole_in F.Family source.now).reach) }
+        ensures capacity { vec_capacity lines.new ≡ vec_capacity lines.old }
+    {
+        self.read_root(source, lines)?;
+        self.end_row(source, lines);
+        if self.reach > MOST_LINES {
+            return Err(Full);
+        }
+        Ok(())
+    }
+
+    // The same, and where it may not be, no line is left.
+    fn read_lines<F: Family>(
+        &mut self,
+        source: &Source<F>,
+        lines: &mut Vec<Line>,
+    ) -> Result<(), Refusal>
+        requires bytes { Bytes source.now.row.now }
+        requires none { lines.old.items ≡ [] }
+        requires room { 514 ≤ vec_capacity lines.old }
+        ensures cases { MatchResult result (λ _. (lines.new.items ≡ (whole_in F.Family source.now).lines) × ((whole_in F.Family source.now).reach ≤ 512) × (length lines.new.items ≤ 512)) (λ e. (e ≡ TooManyLines) × (512 < (whole_in F.Family source.now).reach) × (lines.new.items ≡ [])) }
+        ensures capacity { vec_capacity lines.new ≡ vec_capacity lines.old }
+    {
+        match self.write_lines(source, lines) {
+            Ok(()) => Ok(()),
+            Err(Full) => {
+                lines.clear();
+                Err(Refusal::TooManyLines)
+            }
+        }
+    }
+
+    // A reader, with memory for the open nodes of any layout.
+    pub fn new(heap: Global) -> Result<Reader, AllocError> {
+        let stack = Vec::with_capacity(heap, DEEPEST)?;
+        Ok(Reader {
+            stack,
+            place: 0,
+            told: Told::Begin,
+            reach: 0,
+        })
+    }
+
+    // Makes the report of a row under a layout and a family, or refuses the row and leaves the report cleared. It takes no memory.
+    pub fn read<F: Family>(
+        &mut self,
+        layout: &Layout,
+        family: &F,
+        row: &[u8],
+        report: &mut Report,
+    ) -> Result<(), Refusal>
+        ensures value { result ≡ answer (refusal (F.Family.means family.now) layout.now.nodes.items layout.now.constants.items row.now) }
+        ensures after { MatchResult result (λ _. Made (F.Family.means family.now) layout.now.nodes.items layout.now.constants.items row.now report.new) (λ _. Cleared report.new) }
+    {
+        report.clear();
+        if row.len() > LONGEST_ROW {
+            return Err(Refusal::RowTooLong);
+        }
+        let source = Source {
+            layout,
+            family,
+            row,
+        };
+        self.read_lines(&source, &mut report.lines)?;
+        report.faults = count_faults(&report.lines);
+        source.keep_text(&report.lines, &mut report.text);
+        report.row_length = row.len();
+        Ok(())
+    }
+
+    // The same under a mark, where a rule has a frame for the row; the report then knows the frame's length.
+    pub fn read_framed<R: RowRule, F: Family>(
+        &mut self,
+        rule: &R,
+        layout: &Layout,
+        family: &F,
+        row: &[u8],
+        mark: Mark,
+        report: &mut Report,
+    ) -> Result<(), Refusal>
+        ensures value { result ≡ answer (refusal (F.Family.means family.now) layout.now.nodes.items layout.now.constants.items row.now) }
+        ensures after { MatchResult result (λ _. Framed (R.RowRule.means rule.now).frame (F.Family.means family.now) layout.now.nodes.items layout.now.constants.items row.now mark report.new) (λ _. Cleared report.new) }
+    {
+        self.read(layout, family, row, report)?;
+        report.frame_length = rule.frame_length(row, mark);
+        Ok(())
+    }
+}
