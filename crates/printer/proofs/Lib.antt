@@ -1,0 +1,4 @@
+-- Lemmas of printing.
+pub mod Begun
+pub mod Framing
+pub mod Printed

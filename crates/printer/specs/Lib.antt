@@ -1,0 +1,4 @@
+-- The definitions that the contracts of printing cite.
+pub mod Parts
+pub mod Puts
+pub mod Frames
