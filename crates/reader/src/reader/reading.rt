@@ -1,5 +1,5 @@
 // Reading a row: the loop over the open nodes.
-ghost use Rattle.std.specs.Prelude.{◌≡◌, ◌+◌, ◌<◌, ◌≤◌, [], ◌++◌, length, vec_len, vec_capacity, MatchResult};
+ghost use Rattle.std.specs.Prelude.{◌≡◌, ◌+◌, ◌<◌, ◌≤◌, [], ◌++◌, length, vec_len, vec_capacity, MatchResult, nat_lt};
 ghost use Rattle.fields.specs.Laws.{Bytes};
 ghost use Rattle.report.specs.Reports.{row_lines};
 ghost use Rattle.store.specs.Stored.{Made, Framed, Cleared};
@@ -26,6 +26,13 @@ const ROOT: u16 = 1;
 // More lines would have to stand at one time than a report has room for.
 #[derive(Drop)]
 struct Full;
+
+// Whether a row is too long to be read.
+fn is_too_long(row: &[u8]) -> bool
+    ensures { result ≡ nat_lt 4096 (length row.now) }
+{
+    row.len() > LONGEST_ROW
+}
 
 impl Reader {
     ghost use Rattle.reader.specs.declared.refusal.Refusal.TheVariants.{TooManyLines};
@@ -148,7 +155,7 @@ impl Reader {
         ensures after { MatchResult result (λ _. Made (F.Family.means family.now) layout.now.nodes.items layout.now.constants.items row.now report.new) (λ _. Cleared report.new) }
     {
         report.clear();
-        if row.len() > LONGEST_ROW {
+        if is_too_long(row) {
             return Err(Refusal::RowTooLong);
         }
         let source = Source {

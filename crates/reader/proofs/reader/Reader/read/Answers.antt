@@ -1,5 +1,6 @@
 -- The text is no longer than the row.
-use Rattle.std.proofs.Common.{length, vec_items, ap, ◌∙◌, arith}
+use Rattle.std.proofs.Common.{length, vec_items, sym, ap, ◌∙◌, arith}
+use Rattle.std.proofs.lemmas.Bool.{ltb-false}
 use Rattle.report.specs.Lines.{faults}
 use Rattle.report.specs.Printing.{kept}
 use Rattle.report.proofs.KeptLaws.{kept_short}
@@ -12,7 +13,7 @@ keep_text-requires-clause-room g c =
     let row = c.args.row.now in
     let short = kept_short means (vec_items l.nodes) (vec_items l.constants) row (g.met.F.Family.lawful c.args.family.now) (λ i. (c.type_inv.row i).fits) in
     let is = ap (λ ls. length (kept means (vec_items l.nodes) row ls)) (c.deref-2.ensures.value ∙ c.in_ok-read_lines.ensures.cases.0) in
-    omega (arith, short, is, c.if-row-gt-LONGEST_ROW.false, c.clear.new.self.room.1)
+    omega (arith, short, is, ltb-false 4096 (length row) (sym c.is_too_long.ensures ∙ c.if-is_too_long.false), c.clear.new.self.room.1)
 
 pub invariant_of-report-2 : goal.invariant_of-report-2
 invariant_of-report-2 g c =
@@ -27,8 +28,8 @@ invariant_of-report-2 g c =
       room = (omega (arith, c.read_lines.ensures.capacity, c.clear.new.self.room.0), omega (arith, c.keep_text.ensures.capacity, c.clear.new.self.room.1));
       few = (
         omega (arith, lines.ok.0, c.in_ok-read_lines.ensures.cases.2),
-        omega (arith, text.ok.0, ap length c.keep_text.ensures.items, short, is, c.if-row-gt-LONGEST_ROW.false),
-        omega (arith, c.if-row-gt-LONGEST_ROW.false),
+        omega (arith, text.ok.0, ap length c.keep_text.ensures.items, short, is, ltb-false 4096 (length row) (sym c.is_too_long.ensures ∙ c.if-is_too_long.false)),
+        omega (arith, ltb-false 4096 (length row) (sym c.is_too_long.ensures ∙ c.if-is_too_long.false)),
       );
       counted = c.count_faults-report.ensures ∙ ap faults c.deref.ensures.value;
     }
