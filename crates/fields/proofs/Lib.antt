@@ -1,4 +1,5 @@
 -- Lemmas on the field families.
+pub mod Firsts
 pub mod Stand
 pub mod WholeRule
 pub mod AmountRule

@@ -1,5 +1,5 @@
 // Amounts: an optional minus, a run of digits and, for decimals, a point and a run of exactly so many digits.
-ghost use Rattle.std.specs.Prelude.{◌≡◌, ◌+◌, ◌*◌, ◌^◌, ◌<◌, ◌≤◌, true, false, take, drop, MatchResult};
+ghost use Rattle.std.specs.Prelude.{◌≡◌, [], ◌+◌, ◌*◌, ◌^◌, ◌<◌, ◌≤◌, true, false, take, drop, MatchResult};
 ghost use Rattle.fields.specs.declared.cause.Cause.TheVariants.{Form};
 ghost use Rattle.fields.specs.Cursors.{unread, Ahead, Moved};
 ghost use Rattle.fields.specs.Digits.{value as value_of};
@@ -32,7 +32,13 @@ impl Decimals {
         ensures is { result ≡ 10 ^ self.count }
         ensures some { 0 < result }
     {
-        10u64.pow(u32::from(self.count))
+        match self.count {
+            0 => 1,
+            1 => 10,
+            2 => 100,
+            3 => 1_000,
+            _ => 10_000,
+        }
     }
 
     // Moves over the point and the digits behind it, and gives their number; nothing stands there for no decimals.
@@ -79,7 +85,7 @@ impl Decimals {
             return Err(Cause::Range);
         }
         let n = self.in_units(digits_value(whole), fraction);
-        if is_led(front) {
+        if is_led(whole.len(), front) {
             return Err(Cause::SecondSpelling);
         }
         if minus && n == 0 {
@@ -89,20 +95,19 @@ impl Decimals {
         Ok((guard.cursor.place - start, with_sign(minus, n)))
     }
 
-    // The sign, the digits before the point, and the point with the digits behind it.
-    pub(crate) fn spell(self, number: i64) -> Spelling
-        ensures { result.items ≡ amount_spells self.count number }
+    // The sign, the digits before the point, and the point with the digits behind it, put into an empty spelling.
+    pub(crate) fn spell(self, number: i64, text: &mut Spelling)
+        requires { text.old.items ≡ [] }
+        ensures { text.new.items ≡ amount_spells self.count number }
     {
         let n = number.unsigned_abs();
-        let mut text = Spelling::new();
         if number < 0 {
-            add(&mut text, b"-");
+            add(text, b"-");
         }
-        add_decimal(&mut text, n / self.scale());
+        add_decimal(text, n / self.scale());
         if self.count > 0 {
-            add(&mut text, b".");
-            add_places::<10, b'0'>(&mut text, n % self.scale(), usize::from(self.count));
+            add(text, b".");
+            add_places::<10, b'0'>(text, n % self.scale(), usize::from(self.count));
         }
-        text
     }
 }

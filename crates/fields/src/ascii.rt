@@ -50,12 +50,14 @@ impl Ascii {
     fn spelling(kind: Kind, number: i64) -> Spelling
         ensures { result.items ≡ (ascii_means kind.code kind.parameter).spells number }
     {
+        let mut text = Spelling::new();
         match AsciiKind::of(kind) {
-            Some(AsciiKind::Whole) => spell_whole(number),
-            Some(AsciiKind::Amount(decimals)) => decimals.spell(number),
-            Some(AsciiKind::Date) => spell_date(number),
-            Some(AsciiKind::Text(_)) | None => Spelling::new(),
+            Some(AsciiKind::Whole) => spell_whole(number, &mut text),
+            Some(AsciiKind::Amount(decimals)) => decimals.spell(number, &mut text),
+            Some(AsciiKind::Date) => spell_date(number, &mut text),
+            Some(AsciiKind::Text(_)) | None => {}
         }
+        text
     }
 }
 

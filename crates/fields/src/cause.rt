@@ -33,7 +33,7 @@ pub enum Sort {
 }
 
 impl Cause {
-    // The number of a cause in reports. (One line, alike in four crates: a trait for it would be no plainer.)
+    // The number of a cause in reports. (One line, alike in other crates: a trait for it would be no plainer.)
     pub fn number(self) -> u8
         ensures { result ≡ number_of self }
     {

@@ -5,7 +5,7 @@ ghost use Rattle.fields.specs.Cursors.{unread, Ahead};
 ghost use Rattle.fields.specs.Digits.{run as run_of, value as value_of, all_at, AreDigits};
 
 use crate::cause::Cause;
-use crate::digits::{digits_value, run};
+use crate::digits::{digits_value, run, starts_with_digits};
 
 // A place in the bytes of a row. It is the caller's, and outlives the field that is read there.
 #[derive(Clone, Copy)]
@@ -78,12 +78,13 @@ impl<'a> Cursor<'a> {
     }
 
     // Moves over so many digits, and gives their number.
+    #[inline(always)]
     pub(crate) fn take_digits(&mut self, count: usize) -> Result<u64, Cause>
         requires { count ≤ 12 }
         ensures { MatchResult result (λ n. (all_at 0 count (unread self.old) ≡ true) × (n ≡ value_of (first_bytes count (unread self.old))) × Ahead count self.old self.new) (λ e. (e ≡ Form) × (all_at 0 count (unread self.old) ≡ false) × Ahead 0 self.old self.new) }
     {
         let rest = self.rest();
-        if run(rest) < count {
+        if !starts_with_digits(rest, count) {
             return Err(Cause::Form);
         }
         self.place += count;

@@ -1,5 +1,5 @@
 // Dates of ten bytes, YYYY-MM-DD.
-ghost use Rattle.std.specs.Prelude.{◌≡◌};
+ghost use Rattle.std.specs.Prelude.{◌≡◌, []};
 ghost use Rattle.fields.specs.Calendar.{leap, days, is_date};
 ghost use Rattle.fields.specs.Cursors.{unread, Moved};
 ghost use Rattle.fields.specs.Dates.{date, date_spells};
@@ -28,6 +28,7 @@ fn days_in(year: u64, month: u64) -> u64
     }
 }
 
+#[inline]
 fn is_date(year: u64, month: u64, day: u64) -> bool
     ensures { result ≡ is_date year month day }
 {
@@ -56,16 +57,15 @@ pub(crate) fn read_date(cursor: &mut Cursor) -> Reading
     Ok((10, number(10000 * year + 100 * month + day)))
 }
 
-// The ten bytes of a date.
-pub(crate) fn spell_date(number: i64) -> Spelling
-    ensures { result.items ≡ date_spells number }
+// The ten bytes of a date, put into an empty spelling.
+pub(crate) fn spell_date(number: i64, text: &mut Spelling)
+    requires { text.old.items ≡ [] }
+    ensures { text.new.items ≡ date_spells number }
 {
     let n = number.unsigned_abs();
-    let mut text = Spelling::new();
-    add_places::<10, b'0'>(&mut text, n / 10000, 4);
-    add(&mut text, b"-");
-    add_places::<10, b'0'>(&mut text, n / 100 % 100, 2);
-    add(&mut text, b"-");
-    add_places::<10, b'0'>(&mut text, n % 100, 2);
-    text
+    add_places::<10, b'0'>(text, n / 10000, 4);
+    add(text, b"-");
+    add_places::<10, b'0'>(text, n / 100 % 100, 2);
+    add(text, b"-");
+    add_places::<10, b'0'>(text, n % 100, 2);
 }

@@ -1,5 +1,5 @@
 // Numbers written with places in a base: runs of decimal digits, the number that places write, and writing them.
-ghost use Rattle.std.specs.Prelude.{◌≡◌, ◌+◌, ◌^◌, ◌<◌, ◌≤◌, length, pos};
+ghost use Rattle.std.specs.Prelude.{◌≡◌, ◌+◌, ◌^◌, ◌<◌, ◌≤◌, length, pos, nat_le};
 ghost use Rattle.fields.specs.Digits.{run as run_of, value as value_of, AreDigits};
 ghost use Rattle.fields.specs.PlaceValues.{EachFrom};
 ghost use Rattle.fields.specs.Places.{number_from, places_from};
@@ -9,6 +9,17 @@ pub(crate) fn run(bytes: &[u8]) -> usize
     ensures { result ≡ run_of bytes.now }
 {
     bytes.iter().take_while(|b| b.is_ascii_digit()).count()
+}
+
+// Whether so many digits stand at the beginning; no byte behind them is looked at.
+#[inline(always)]
+pub(crate) fn starts_with_digits(bytes: &[u8], count: usize) -> bool
+    ensures { result ≡ nat_le count (run_of bytes.now) }
+{
+    if bytes.len() < count {
+        return false;
+    }
+    run(&bytes[..count]) == count
 }
 
 // The number that bytes write with places in a base; `FIRST` is the byte of place 0.

@@ -13,13 +13,13 @@ const HEADER: usize = 2;
 // A node or a constant takes eight bytes.
 const RECORD: usize = 8;
 
-// The most bytes that a layout file has.
-pub const LONGEST_FILE: usize = HEADER + RECORD * (MOST_NODES + MOST_CONSTANTS);
-
-// A file with more bytes is refused for its size, whatever they are: so nobody has to read further than one byte past the longest.
-pub fn longer_files()
-    ensures { (bytes : List ℕ) → 2114 < length bytes → wrong_size 200 64 bytes ≡ true }
-{}
+// The most bytes that a layout file has. One with more is refused for its size, whatever they are: so nobody has to read further than one byte past the longest.
+pub fn longest_file() -> usize
+    ensures value { result ≡ 2114 }
+    ensures longer { (bytes : List ℕ) → result < length bytes → wrong_size 200 64 bytes ≡ true }
+{
+    HEADER + RECORD * (MOST_NODES + MOST_CONSTANTS)
+}
 
 #[derive(Clone, Copy)]
 pub(crate) struct Header {

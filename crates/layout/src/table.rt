@@ -6,7 +6,7 @@ ghost use Rattle.layout.specs.Shapes.{links, names_none, misplaced};
 
 use crate::node::Node;
 
-// Its memory is taken once, when it is made: loading takes none. So nodes name each other by number in one list, and no node owns those below it; the reader that is to come goes through them in one loop.
+// Its memory is taken once, when it is made: loading takes none. So nodes name each other by number in one list, and no node owns those below it; the reader goes through them in one loop.
 #[derive(Drop)]
 pub struct Layout {
     nodes: Vec<Node>,

@@ -3,7 +3,7 @@ use crate::failure::Failure;
 use crate::files::read_up_to;
 use cli::families::{AnyFamily, FamilyWords, family_of};
 use cli::problems::Problem;
-use layout::header::LONGEST_FILE;
+use layout::header::longest_file;
 use layout::table::Layout;
 use outlines::tree::tree_lines;
 use std::io;
@@ -26,7 +26,7 @@ pub fn print_layout<'a>(
 ) -> Result<(), Failure<'a>> {
     let family = family_of(words).ok_or(Problem::NoFamily(words))?;
     // a byte more than the longest is refused like the whole of a longer file
-    let bytes = read_up_to(rt, name, LONGEST_FILE + 1).map_err(|error| Failure::Unreadable(
+    let bytes = read_up_to(rt, name, longest_file() + 1).map_err(|error| Failure::Unreadable(
         name, error,
     ))?;
     let mut layout = Layout::new(rt.alloc()).map_err(io::Error::from)?;

@@ -52,7 +52,7 @@ fn write_frame_aside<R: RowRule, F: Family>(
     write(&scratch[..length], out).ok_or(Refusal::BufferTooShort)
 }
 
-// Writes the frame of a report's row at a buffer's beginning, and says how long it is. A buffer without room for it is refused before anything is written.
+// Writes the frame of a report's row at a buffer's beginning, and says how long it is. A buffer without room for it is refused before anything is written, where a reading has made the report.
 #[tactic(auto, using(crate::proofs::Printed::put_longer, crate::proofs::Printed::put_shorter))]
 pub fn print_framed<R: RowRule, F: Family>(
     rule: &R,

@@ -1,12 +1,13 @@
 -- The open nodes of a reader, which has the innermost last.
-use Rattle.std.proofs.Common.{◌≡◌, ℕ, List, [], ◌∷◌, ◌++◌, map, ℤ, ap, ◌∙◌}
+use Rattle.std.proofs.Common.{◌≡◌, ℕ, List, [], ◌∷◌, ◌++◌, map, ℤ, Some, None, Option, refl, ap, ◌∙◌}
 use Rattle.std.proofs.lemmas.List.{reverse-append}
 use Rattle.layout.specs.declared.node.Node.{Node}
 use Rattle.reader.specs.declared.open.Open.{Open}
 use Rattle.report.specs.declared.line.Line.{Line}
 use Rattle.reader.specs.declared.open.Told.{Told}
-use Rattle.reader.specs.Turns.{Pending, state}
-use Rattle.reader.specs.Models.{pending_of, stack_of}
+use Rattle.reader.specs.declared.source.Source.{Source}
+use Rattle.reader.specs.Turns.{Pending, State, state}
+use Rattle.reader.specs.Models.{pending_of, stack_of, innermost_in}
 
 module _ (nodes : List Node) (constants : List ℤ) where
   -- one node more is open
@@ -20,3 +21,8 @@ module _ (nodes : List Node) (constants : List ℤ) where
 pub states : (t : Told) {fs gs : List Pending} {ls ms : List Line} {p q r s : ℕ} → fs ≡ gs → ls ≡ ms → p ≡ q → r ≡ s → state fs ls p t r ≡ state gs ms q t s
 states t {gs = gs} {ls = ls} {ms = ms} {p = p} {q = q} {r = r} a b c d =
     ap (λ x. state x ls p t r) a ∙ ap (λ x. state gs x p t r) b ∙ ap (λ x. state gs ms x t r) c ∙ ap (λ x. state gs ms q t x) d
+
+-- to hold the innermost open node beside the others leaves the reach
+pub reach_of : {F : Type 0} (s : Source F) (o : Option Open) (x : State) → (innermost_in s o x).reach ≡ x.reach
+reach_of s None x = refl
+reach_of s (Some f) x = refl

@@ -44,6 +44,10 @@ module _ (nodes : List Node) (constants : List ℤ) where
   abbrev pub state_of : Reader → List Line → State
   state_of m ls = state (stack_in m) ls m.place m.told m.reach
 
+-- a state whose innermost open node is held beside the others
+abbrev pub under_node : Pending → State → State
+under_node f x = state (f ∷ x.stack) x.lines x.place x.told x.reach
+
 -- what is read: a source's nodes, constants and row, and a reader's state over it
 module _ {F : Type 0} where
   abbrev pub nodes_of : Source F → List Node
@@ -66,6 +70,11 @@ module _ {F : Type 0} where
 
   abbrev pub state_in : Source F → Reader → List Line → State
   state_in s m ls = state_of (nodes_of s) (constants_of s) m ls
+
+  -- a state with the innermost open node that was handed out; with none, no node is open
+  abbrev pub innermost_in : Source F → Option Open → State → State
+  innermost_in s None x = state [] x.lines x.place x.told x.reach
+  innermost_in s (Some f) x = under_node (node_in s f) x
 
   -- there is room for what a turn does, at these open nodes
   pub record Ready (s : Source F) (fs : List Pending) (m : Reader) (ls : List Line) (capacity : ℕ) : Type 0 where

@@ -58,6 +58,18 @@ pub(crate) enum Told {
     Skip,
 }
 
+impl Told {
+    ghost use Rattle.std.specs.Prelude.{◌≡◌};
+    ghost use Rattle.reader.specs.Models.{broke};
+
+    // Whether the part that was read last broke, or is given up.
+    pub(crate) fn broke(self) -> bool
+        ensures { result ≡ broke self }
+    {
+        matches!(self, Told::Fault | Told::Seek | Told::Skip)
+    }
+}
+
 impl Open {
     ghost use Rattle.std.specs.Prelude.{◌≡◌, ℕ, ℤ, List};
     ghost use Rattle.layout.specs.declared.node.Node.{Node};

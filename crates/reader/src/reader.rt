@@ -6,6 +6,7 @@ use crate::open::{Open, Told};
 mod keeping;
 mod reading;
 mod recovering;
+mod stepping;
 mod turning;
 mod writing;
 

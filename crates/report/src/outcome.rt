@@ -22,7 +22,7 @@ pub enum Outcome {
 }
 
 impl Outcome {
-    // The number of an outcome in reports. (One line, alike in four crates: a trait for it would be no plainer.)
+    // The number of an outcome in reports. (One line, alike in other crates: a trait for it would be no plainer.)
     pub fn number(self) -> u8
         ensures { result ≡ outcome_number self }
     {

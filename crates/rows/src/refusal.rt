@@ -17,7 +17,7 @@ pub enum Refusal {
 }
 
 impl Refusal {
-    // The number by which a refusal is known. (One line, alike in four crates: a trait for it would be no plainer.)
+    // The number by which a refusal is known. (One line, alike in other crates: a trait for it would be no plainer.)
     pub fn number(self) -> u8
         ensures { result ≡ number_of self }
     {

@@ -1,5 +1,5 @@
 -- What a stored report is.
-use Rattle.std.specs.Prelude.{◌≡◌, ℕ, List, [], length, ℤ, vec_items}
+use Rattle.std.specs.Prelude.{◌≡◌, ℕ, List, [], length, ℤ, vec_items, vec_capacity}
 use Rattle.rows.specs.declared.piece.Mark.{Mark}
 use Rattle.rows.specs.Frames.{measured}
 use Rattle.fields.specs.Meanings.{Meaning}
@@ -10,6 +10,10 @@ use Rattle.store.specs.declared.memory.Report.{Report}
 -- its lines and kept text
 abbrev pub report_of : Report → defined.Report
 report_of r = record { lines = vec_items r.lines; text = vec_items r.text }
+
+-- how many lines and bytes of text its memory has room for
+abbrev pub room_of : Report → ℕ × ℕ
+room_of r = (vec_capacity r.lines, vec_capacity r.text)
 
 -- a report that holds nothing
 pub record Cleared (r : Report) : Type 0 where

@@ -7,7 +7,7 @@ use report::line::Line;
 pub mod made;
 
 // A reader may have two lines more than the most for a moment, so there is room for them.
-#[derive(PartialEq, Eq, Debug, Drop)]
+#[derive(Debug, Drop)]
 pub struct Report {
     pub lines: Vec<Line>,
     pub text: Vec<u8>,

@@ -1,5 +1,5 @@
 // What a report keeps of its row besides the lines.
-ghost use Rattle.std.specs.Prelude.{◌≡◌, ◌≤◌, [], length, take as first_bytes, drop as from_place, vec_capacity};
+ghost use Rattle.std.specs.Prelude.{◌≡◌, ◌≤◌, ◌+◌, ◌++◌, [], length, take as first_bytes, drop as from_place, vec_len, vec_capacity};
 ghost use Rattle.report.specs.Lines.{faults};
 ghost use Rattle.report.specs.Printing.{share_of, kept};
 
@@ -16,6 +16,17 @@ pub(crate) fn count_faults(lines: &[Line]) -> usize
     ensures { result ≡ faults lines.now }
 {
     lines.iter().filter(|line| line.outcome.is_fault()).count()
+}
+
+// Adds bytes, for which there is room.
+fn add(text: &mut Vec<u8>, bytes: &[u8])
+    requires { vec_len text.old + length bytes.now ≤ vec_capacity text.old }
+    ensures items { text.new.items ≡ text.old.items ++ bytes.now }
+    ensures capacity { vec_capacity text.new ≡ vec_capacity text.old }
+{
+    for byte in bytes {
+        text.push_reserved(*byte);
+    }
 }
 
 impl<'a, F: Family> Source<'a, F> {
@@ -39,9 +50,13 @@ impl<'a, F: Family> Source<'a, F> {
     fn kept_bytes(&self, line: Line) -> &'a [u8]
         ensures { result.now ≡ first_bytes (share_of (F.Family.means self.now.family.now) (nodes_of self.now) line) (from_place line.start self.now.row.now) }
     {
+        let share = self.share(line);
+        // most lines keep none, and nothing more is looked at for them
+        if share == 0 {
+            return &[];
+        }
         let from = self.row.get(line.start..).unwrap_or(&[]);
-        let share = self.share(line).min(from.len());
-        &from[..share]
+        &from[..share.min(from.len())]
     }
 
     // Keeps the bytes of the lines that keep theirs.
@@ -49,11 +64,10 @@ impl<'a, F: Family> Source<'a, F> {
         requires none { text.old.items ≡ [] }
         requires room { length (kept (F.Family.means self.now.family.now) (nodes_of self.now) self.now.row.now lines.now) ≤ vec_capacity text.old }
         ensures items { text.new.items ≡ kept (F.Family.means self.now.family.now) (nodes_of self.now) self.now.row.now lines.now }
-        ensures capacity { vec_capacity text.old ≤ vec_capacity text.new }
+        ensures capacity { vec_capacity text.new ≡ vec_capacity text.old }
     {
         for line in lines {
-            // there is room, so that this takes no memory and cannot fail
-            let _ = text.extend_from_slice(self.kept_bytes(*line));
+            add(text, self.kept_bytes(*line));
         }
     }
 }

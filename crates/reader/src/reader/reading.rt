@@ -1,11 +1,13 @@
 // Reading a row: the loop over the open nodes.
-ghost use Rattle.std.specs.Prelude.{◌≡◌, ◌+◌, ◌<◌, ◌≤◌, [], ◌++◌, length, vec_len, vec_capacity, MatchResult, nat_lt};
+ghost use Rattle.std.specs.Prelude.{◌≡◌, ◌+◌, ◌<◌, ◌≤◌, [], ◌++◌, ◌↔◌, false, true, length, vec_len, vec_capacity, MatchResult, OnOk, nat_lt};
+ghost use Rattle.layout.specs.Trees.{height};
 ghost use Rattle.fields.specs.Laws.{Bytes};
 ghost use Rattle.report.specs.Reports.{row_lines};
-ghost use Rattle.store.specs.Stored.{Made, Framed, Cleared};
+ghost use Rattle.report.specs.Meets.{meets};
+ghost use Rattle.store.specs.Stored.{Made, Framed, Cleared, room_of};
 ghost use Rattle.reader.specs.Refusals.{refusal, answer};
 
-use crate::open::Told;
+use crate::open::{Open, Told};
 use crate::reader::keeping::count_faults;
 use crate::reader::{DEEPEST, Reader};
 use crate::refusal::Refusal;
@@ -37,7 +39,18 @@ fn is_too_long(row: &[u8]) -> bool
 impl Reader {
     ghost use Rattle.reader.specs.declared.refusal.Refusal.TheVariants.{TooManyLines};
     ghost use Rattle.reader.specs.Turns.{raised};
-    ghost use Rattle.reader.specs.Models.{root_in, read_in, whole_in, broke};
+    ghost use Rattle.reader.specs.Models.{ReadyIn, state_in, part_in, begun_in, innermost_in, root_in, read_in, whole_in, broke};
+
+    // The root is begun, open; the innermost open node is handed out, if there is one.
+    fn begin_root<F: Family>(&mut self, source: &Source<F>, lines: &mut Vec<Line>) -> Option<Open>
+        requires ready { ReadyIn source.now self.old lines.old.items (vec_capacity lines.old) }
+        requires nest { vec_len self.old.stack + height (part_in source.now 1) ≤ 16 }
+        ensures after { innermost_in source.now result (state_in source.now self.new lines.new.items) ≡ begun_in F.Family source.now false 1 (state_in source.now self.old lines.old.items) }
+        ensures capacity { vec_capacity lines.new ≡ vec_capacity lines.old }
+    {
+        self.begin(source, lines, false, ROOT);
+        self.stack.pop()
+    }
 
     // Reads the root, open, from the row's beginning; or more lines would have to stand at one time than may.
     fn read_root<F: Family>(
@@ -55,12 +68,12 @@ impl Reader {
         self.place = 0;
         self.told = Told::Begin;
         self.reach = 0;
-        self.begin(source, lines, false, ROOT);
+        let mut innermost = self.begin_root(source, lines);
         while self.reach <= MOST_LINES {
-            let Some(f) = self.stack.pop() else {
+            let Some(f) = innermost else {
                 return Ok(());
             };
-            self.turn(source, lines, f);
+            innermost = self.step(source, lines, f);
         }
         Err(Full)
     }
@@ -143,8 +156,8 @@ impl Reader {
         })
     }
 
-    // Makes the report of a row under a layout and a family, or refuses the row and leaves the report cleared. It takes no memory.
-    pub fn read<F: Family>(
+    // Makes the report of a row under a layout and a family, or refuses the row and leaves the report cleared.
+    fn read_row<F: Family>(
         &mut self,
         layout: &Layout,
         family: &F,
@@ -153,6 +166,7 @@ impl Reader {
     ) -> Result<(), Refusal>
         ensures value { result ≡ answer (refusal (F.Family.means family.now) layout.now.nodes.items layout.now.constants.items row.now) }
         ensures after { MatchResult result (λ _. Made (F.Family.means family.now) layout.now.nodes.items layout.now.constants.items row.now report.new) (λ _. Cleared report.new) }
+        ensures room { room_of report.new ≡ room_of report.old }
     {
         report.clear();
         if is_too_long(row) {
@@ -170,7 +184,7 @@ impl Reader {
         Ok(())
     }
 
-    // The same under a mark, where a rule has a frame for the row; the report then knows the frame's length.
+    // Makes the report of a row under a layout and a family, with the length of the frame that a rule has for it under its mark; or refuses the row and leaves the report cleared. It takes no memory.
     pub fn read_framed<R: RowRule, F: Family>(
         &mut self,
         rule: &R,
@@ -182,8 +196,10 @@ impl Reader {
     ) -> Result<(), Refusal>
         ensures value { result ≡ answer (refusal (F.Family.means family.now) layout.now.nodes.items layout.now.constants.items row.now) }
         ensures after { MatchResult result (λ _. Framed (R.RowRule.means rule.now).frame (F.Family.means family.now) layout.now.nodes.items layout.now.constants.items row.now mark report.new) (λ _. Cleared report.new) }
+        ensures clean { OnOk result ((report.new.faults ≡ 0) ↔ (meets (F.Family.means family.now) layout.now.nodes.items layout.now.constants.items row.now ≡ true)) }
+        ensures room { room_of report.new ≡ room_of report.old }
     {
-        self.read(layout, family, row, report)?;
+        self.read_row(layout, family, row, report)?;
         report.frame_length = rule.frame_length(row, mark);
         Ok(())
     }

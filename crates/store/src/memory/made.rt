@@ -1,6 +1,6 @@
 // Making a report's memory, and clearing it.
 ghost use Rattle.std.specs.Prelude.{◌≡◌, IfOk};
-ghost use Rattle.store.specs.Stored.{Cleared};
+ghost use Rattle.store.specs.Stored.{Cleared, room_of};
 
 use crate::memory::Report;
 use std::alloc::{AllocError, Global};
@@ -29,7 +29,8 @@ impl Report {
 
     // Forgets what the report holds; its memory stays.
     pub fn clear(&mut self)
-        ensures { Cleared self.new }
+        ensures after { Cleared self.new }
+        ensures room { room_of self.new ≡ room_of self.old }
     {
         self.lines.clear();
         self.text.clear();

@@ -1,12 +1,12 @@
 -- The text of one line more, for which there is room.
-use Rattle.std.proofs.Common.{◌+◌, ◌≤◌, ◌++◌, if◌then◌else◌, length, take, vec_items, vec_len, vec_capacity, sym, ap, ◌∙◌, arith, length-append}
+use Rattle.std.proofs.Common.{◌+◌, ◌++◌, length, take, sym, ap, ◌∙◌, arith, length-append}
 use Rattle.report.specs.Printing.{kept}
 use Rattle.report.proofs.KeptLaws.{kept_more, kept_first}
 use Rattle.reader.specs.Models.{nodes_of}
 use Rattle.reader.proofs.source.Source.keep_text.Goals as goal
 
-pub loop-line-preserved : goal.loop-line-preserved
-loop-line-preserved g c =
+pub add-requires : goal.add-requires
+add-requires g c =
     let s = c.args.self.now in
     let means = g.F.Family.means s.family.now in
     let more = kept_more means (nodes_of s) s.row.now c.args.lines.now c.loop-line.line-index _ c.loop-line-test.true in
@@ -15,12 +15,16 @@ loop-line-preserved g c =
     let part = c.kept_bytes.ensures in
     let long = length-append (kept means (nodes_of s) s.row.now (take c.loop-line.line-index c.args.lines.now)) c.kept_bytes.result.now in
     let is = more ∙ ap (λ t. kept means (nodes_of s) s.row.now (take c.loop-line.line-index c.args.lines.now) ++ t) (sym part) in
-    let room : vec_len c.loop-line.text + length c.kept_bytes.result.now ≤ vec_capacity c.loop-line.text =
-    omega (arith, c.loop-line.text.ok.0, ap length so-far, ap length is, long, fits, c.requires.room, c.loop-line.invariant.1) in
-    let ok = c.extend_from_slice.ensures.succeeds room in (
-      c.extend_from_slice.ensures.items
-          ∙ ap (λ b. if b then vec_items c.loop-line.text ++ c.kept_bytes.result.now else vec_items c.loop-line.text) ok
-          ∙ ap (λ t. t ++ c.kept_bytes.result.now) so-far
-          ∙ sym is,
-      omega (arith, c.extend_from_slice.ensures.capacity, c.loop-line.invariant.1),
+    omega (arith, c.loop-line.text.ok.0, ap length so-far, ap length is, long, fits, c.requires.room, c.loop-line.invariant.1)
+
+pub loop-line-preserved : goal.loop-line-preserved
+loop-line-preserved g c =
+    let s = c.args.self.now in
+    let means = g.F.Family.means s.family.now in
+    let more = kept_more means (nodes_of s) s.row.now c.args.lines.now c.loop-line.line-index _ c.loop-line-test.true in
+    let so-far = c.loop-line.invariant.0 in
+    let part = c.kept_bytes.ensures in
+    let is = more ∙ ap (λ t. kept means (nodes_of s) s.row.now (take c.loop-line.line-index c.args.lines.now) ++ t) (sym part) in (
+      c.add.ensures.items ∙ ap (λ t. t ++ c.kept_bytes.result.now) so-far ∙ sym is,
+      omega (arith, c.add.ensures.capacity, c.loop-line.invariant.1),
     )

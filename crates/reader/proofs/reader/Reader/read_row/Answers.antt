@@ -4,7 +4,7 @@ use Rattle.std.proofs.lemmas.Bool.{ltb-false}
 use Rattle.report.specs.Lines.{faults}
 use Rattle.report.specs.Printing.{kept}
 use Rattle.report.proofs.KeptLaws.{kept_short}
-use Rattle.reader.proofs.reader.Reader.read.Goals as goal
+use Rattle.reader.proofs.reader.Reader.read_row.Goals as goal
 
 pub keep_text-requires-clause-room : goal.keep_text-requires-clause-room
 keep_text-requires-clause-room g c =

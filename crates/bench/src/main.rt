@@ -1,0 +1,71 @@
+// A program to measure with: it cuts, reads, or reads and prints an export so many times, and says what came.
+#![tactic(auto)]
+
+mod pass;
+
+use crate::pass::{Counts, Memory, Work};
+use layout::header::LONGEST_FILE;
+use rows::file::LONGEST;
+use std::fs::File;
+use std::io::Read;
+use std::{env, io};
+
+const HELP: &str = "bench WORK TIMES LAYOUT FILE
+
+WORK is cut, read, or print; rows end at byte 0A, and fields are of the ASCII family.
+Under 0 times the files are read and nothing else is done.
+";
+
+// The first bytes of a file, so many at most.
+fn read_up_to(rt: &HostRuntime, name: &str, most: usize) -> io::Result<Vec<u8>> {
+    let file = File::open(rt, name)?;
+    let mut bytes = Vec::new(rt.alloc());
+    file.take(most as u64).read_to_end(&mut bytes)?;
+    Ok(bytes)
+}
+
+// The memory is taken before the first time, and no time takes any.
+fn measure(
+    rt: &HostRuntime,
+    work: Work,
+    times: usize,
+    layout: &str,
+    file: &str,
+) -> anyhow::Result<()> {
+    let layout = read_up_to(rt, layout, LONGEST_FILE + 1)?;
+    let bytes = read_up_to(rt, file, LONGEST)?;
+    let mut memory = Memory::new(rt.alloc())?;
+    if !memory.load(layout.as_slice()) {
+        eprintln!(rt; "bench: the layout is refused")?;
+        return Ok(());
+    }
+    let mut counts = Counts::NONE;
+    for _ in 0..times {
+        counts = memory.pass(work, bytes.as_slice());
+    }
+    let Counts {
+        rows,
+        refused,
+        faulty,
+        printed,
+    } = counts;
+    println!(rt; "rows {rows}, refused {refused}, faulty {faulty}, bytes printed {printed}")?;
+    Ok(())
+}
+
+fn main(rt: HostRuntime) -> anyhow::Result<()> {
+    let words: Vec<String> = env::args(&rt)?.collect(rt.alloc())?;
+    if let [_, work, times, layout, file] = words.as_slice() {
+        let work = match work.as_str() {
+            "cut" => Some(Work::Cut),
+            "read" => Some(Work::Read),
+            "print" => Some(Work::Print),
+            _ => None,
+        };
+        if let (Some(work), Ok(times)) = (work, times.parse::<usize>()) {
+            return measure(&rt, work, times, layout.as_str(), file.as_str());
+        }
+    }
+    print!(rt; "{HELP}")?;
+    Ok(())
+}
