@@ -1,8 +1,9 @@
 // What stops a command, and the line that says so.
 ghost use Rattle.std.specs.Prelude.{Some};
-ghost use Rattle.cli.specs.Problems.{problem_line};
+ghost use Rattle.cli.specs.Problems.{problem_line, unread_words};
 
 use layout::refusal::Refusal as LayoutRefusal;
+use reader::refusal::Refusal as RowRefusal;
 use rows::refusal::Refusal;
 use std::fmt;
 
@@ -21,6 +22,8 @@ pub enum Problem<'a> {
     Refused(Refusal, &'a str),
     // why a layout file was refused, and its name
     RefusedLayout(LayoutRefusal, &'a str),
+    // the number of a row that is not read, why, and its file's name
+    Unread(usize, RowRefusal, &'a str),
     // a file's name, and the reason
     Unreadable(&'a str, &'a str),
 }
@@ -67,9 +70,30 @@ impl fmt::Display for Problem<'_> {
                 let number = refusal.number();
                 write!(f, "neskvaru: refused, number {number}: {refusal}: '{name}'")
             }
+            Problem::Unread(row, refusal, name) => {
+                let row = UnreadRow { row, refusal };
+                write!(f, "neskvaru: {row}: '{name}'")
+            }
             Problem::Unreadable(name, reason) => {
                 write!(f, "neskvaru: cannot read the file '{name}': {reason}")
             }
         }
+    }
+}
+
+// A row that is not read, by its number, and why.
+#[derive(Clone, Copy)]
+struct UnreadRow {
+    row: usize,
+    refusal: RowRefusal,
+}
+
+impl fmt::Display for UnreadRow {
+    ghost output = { λ unread. Some (unread_words unread.row unread.refusal) };
+
+    fn fmt<W: fmt::Write>(&self, f: &mut fmt::Formatter<W>) -> fmt::Result {
+        let (row, refusal) = (self.row, self.refusal);
+        let number = refusal.number();
+        write!(f, "row {row} is not read, number {number}: {refusal}")
     }
 }

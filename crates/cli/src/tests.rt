@@ -7,6 +7,7 @@ use crate::readings::Reading;
 use crate::rules::{RuleFault, rule_of};
 use fields::cause::Cause;
 use layout::refusal::Refusal as LayoutRefusal;
+use reader::refusal::Refusal as RowRefusal;
 use rows::newline::Newline;
 use rows::refusal::Refusal;
 use rows::rule::RowRule;
@@ -148,6 +149,12 @@ fn problems_are_told(rt: HostRuntime) -> Result<(), Fail> {
             .to_string(heap)?
             .as_str(),
         "neskvaru: refused, number 7: a node lies too deep: 'x.layout'"
+    );
+    assert_eq!(rt;
+        Problem::Unread(3, RowRefusal::RowTooLong, "x.csv")
+            .to_string(heap)?
+            .as_str(),
+        "neskvaru: row 3 is not read, number 9: a row has more than 4096 bytes: 'x.csv'"
     );
     Ok(())
 }

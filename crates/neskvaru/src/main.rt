@@ -1,16 +1,22 @@
 // The program: it reads its words, does what they ask from start to finish, and says what it did.
 #![tactic(auto)]
 
+mod export;
 mod failure;
 mod field_command;
 mod files;
 mod layout_command;
+mod print_command;
 mod rows_command;
+mod trace_command;
 
+use crate::export::Words;
 use crate::failure::Failure;
 use crate::field_command::read_field;
 use crate::layout_command::print_layout;
+use crate::print_command::print_export;
 use crate::rows_command::list_rows;
+use crate::trace_command::trace_export;
 use cli::problems::Problem;
 use std::env;
 use std::process::ExitCode;
@@ -21,6 +27,8 @@ const HELP: &str = "neskvaru cuts a bank's export into rows and tells, row by ro
   neskvaru rows RULE FILE                  each row with its place, length and mark, the tail, and a summary
   neskvaru field FAMILY KIND P TEXT        what reading TEXT as a field of that kind gives, or why it cannot be read
   neskvaru layout FAMILY LAYOUT            the tree of a layout file, one node a line, or why it is refused
+  neskvaru trace RULE FAMILY LAYOUT FILE   every row read under a layout file: its report, a record a line, and the tail
+  neskvaru print RULE FAMILY LAYOUT FILE   the file again, written from the reports of its rows alone
 
 RULE is one of
   newline                  byte 0A ends a row; a closing row without it is a row all the same
@@ -34,6 +42,33 @@ FAMILY is one of
 
 A file of rows has at most 16777216 bytes. A refusal is told on standard error, with status 1.
 ";
+
+// The words that name an export.
+fn export_words<'a>(
+    rule: &'a String,
+    family: &'a String,
+    layout: &'a String,
+    file: &'a String,
+) -> Words<'a> {
+    Words {
+        rule: rule.as_str(),
+        family: family.as_str(),
+        layout: layout.as_str(),
+        file: file.as_str(),
+    }
+}
+
+// What is wrong with a command whose words are not those of its form.
+fn misused(command: &str) -> Problem<'_> {
+    match command {
+        "rows" => Problem::WrongWords("rows RULE FILE"),
+        "field" => Problem::WrongWords("field FAMILY KIND P TEXT"),
+        "layout" => Problem::WrongWords("layout FAMILY LAYOUT"),
+        "trace" => Problem::WrongWords("trace RULE FAMILY LAYOUT FILE"),
+        "print" => Problem::WrongWords("print RULE FAMILY LAYOUT FILE"),
+        other => Problem::NoCommand(other),
+    }
+}
 
 // Does what the words ask; the first is the program's own name.
 fn run<'a>(rt: &HostRuntime, words: &'a [String]) -> Result<(), Failure<'a>> {
@@ -49,10 +84,15 @@ fn run<'a>(rt: &HostRuntime, words: &'a [String]) -> Result<(), Failure<'a>> {
                 text.as_str(),
             )?,
             ("layout", [family, file]) => print_layout(rt, family.as_str(), file.as_str())?,
-            ("field", _) => return Err(Problem::WrongWords("field FAMILY KIND P TEXT").into()),
-            ("layout", _) => return Err(Problem::WrongWords("layout FAMILY LAYOUT").into()),
-            ("rows", _) => return Err(Problem::WrongWords("rows RULE FILE").into()),
-            (other, _) => return Err(Problem::NoCommand(other).into()),
+            ("trace", [rule, family, layout, file]) => trace_export(
+                rt,
+                export_words(rule, family, layout, file),
+            )?,
+            ("print", [rule, family, layout, file]) => print_export(
+                rt,
+                export_words(rule, family, layout, file),
+            )?,
+            (command, _) => return Err(misused(command).into()),
         },
     }
     Ok(())

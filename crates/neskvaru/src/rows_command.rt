@@ -1,9 +1,9 @@
 // The command `rows`: lists the rows of a file.
+use crate::export::rule_named;
 use crate::failure::Failure;
 use crate::files::read_file;
 use cli::listing::Listing;
 use cli::problems::Problem;
-use cli::rules::{RuleFault, rule_of};
 use rows::refusal::Refusal;
 use rows::rule::RowRule;
 use std::io;
@@ -20,10 +20,7 @@ fn write_listing<R: RowRule + Drop>(rt: &HostRuntime, listing: Listing<'_, R>) -
 
 // Cuts the file by the rule that the words stand for, and lists what came.
 pub fn list_rows<'a>(rt: &HostRuntime, words: &'a str, name: &'a str) -> Result<(), Failure<'a>> {
-    let rule = rule_of(words).map_err(|fault| match fault {
-        RuleFault::Unreadable => Problem::NoRule(words),
-        RuleFault::Refused(refusal) => Problem::Refused(refusal, words),
-    })?;
+    let rule = rule_named(words)?;
     let bytes = read_file(rt, name)
         .map_err(|error| Failure::Unreadable(name, error))?
         .ok_or(Problem::Refused(Refusal::FileTooLong, name))?;

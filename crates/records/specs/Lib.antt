@@ -1,0 +1,3 @@
+-- The definitions that the contracts of records cite.
+pub mod Hex
+pub mod Records

@@ -1,0 +1,9 @@
+// Passes over an export: its trace, and the export written again from the reports of its rows.
+#![tactic(auto)]
+
+pub mod print;
+pub mod stop;
+#[cfg(test)]
+mod tests;
+pub mod trace;
+pub mod workspace;
