@@ -12,7 +12,7 @@ use crate::stop::Stop;
 use crate::workspace::{Desk, Under, Workspace, take_up};
 use fields::family::Family;
 use records::record::Record;
-use rows::piece::Piece;
+use rows::piece::{Mark, Piece};
 use rows::rule::RowRule;
 use std::io;
 use std::io::Write;
@@ -30,18 +30,25 @@ fn write_report<W: Write>(report: &Report, out: &mut W) -> io::Result<()>
 }
 
 // Reads a row and writes the records of its report, or of its refusal.
-fn trace_row<F: Family, W: Write>(
+fn trace_row<R: RowRule, F: Family, W: Write>(
     desk: &mut Desk,
     under: &Under<F>,
+    rule: &R,
     row: &[u8],
+    mark: Mark,
     out: &mut W,
 ) -> io::Result<()>
     ensures { OnOk result (Appends (W.contents out.old) (W.contents out.new) (reading_text (F.means under.now.family.now) under.now.layout.now.nodes.items under.now.layout.now.constants.items row.now)) }
 {
-    match desk
-        .reader
-        .read(under.layout, under.family, row, &mut desk.report)
-    {
+    let read = desk.reader.read_framed(
+        rule,
+        under.layout,
+        under.family,
+        row,
+        mark,
+        &mut desk.report,
+    );
+    match read {
         Ok(()) => write_report(&desk.report, out),
         Err(refusal) => out.writeln(Record::Refused(refusal.number())),
     }
@@ -69,7 +76,7 @@ fn trace_rows<R: RowRule, F: Family, W: Write>(
                     length: bytes.len(),
                     mark,
                 })?;
-                trace_row(desk, under, bytes, out)?;
+                trace_row(desk, under, rule, bytes, mark, out)?;
             }
             Piece::Tail { start, bytes } => {
                 return out.writeln(Record::Tail {
