@@ -6,7 +6,6 @@ use cli::problems::Problem;
 use cli::rules::{AnyRule, RuleFault, rule_of};
 use layout::header::LONGEST_FILE;
 use rows::file::LONGEST;
-use std::io;
 use tracing::stop::{Refusal, Stop};
 
 // The words of a command.

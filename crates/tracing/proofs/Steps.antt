@@ -1,6 +1,7 @@
 -- One row more of an export: what is written for it, and what is then to come.
 use Rattle.std.proofs.Common.{◌≡◌, ℕ, ◌+◌, suc, List, ◌∷◌, ◌++◌, length, ℤ, None, sym, ap, ◌∙◌, append_assoc}
 use Rattle.rows.specs.Cuts.{RowAt, Cut, texts, frames}
+use Rattle.rows.specs.declared.piece.Mark.{Mark}
 use Rattle.rows.specs.CutLaws.{was_row}
 use Rattle.rows.specs.Rules as rules
 use Rattle.rows.specs.Rules.{joined}
@@ -10,7 +11,7 @@ use Rattle.layout.specs.declared.node.Node.{Node}
 use Rattle.reader.specs.Refusals.{refusal}
 use Rattle.records.specs.Records.{row_text}
 use Rattle.tracing.specs.Traces.{on_a_line, reading_text, rows_text, tail_line, trace_from}
-use Rattle.tracing.specs.Prints.{or_later, first_unread}
+use Rattle.tracing.specs.Prints.{or_later, first_unread, if_read, frames_before}
 
 -- the first row is told, and that row alone is then gone
 module _ (c d : Cut) (r : RowAt) (tells : row r ≡ piece_of c) (leaves : d ≡ behind c) where
@@ -45,3 +46,11 @@ module _ (c d : Cut) (r : RowAt) (tells : row r ≡ piece_of c) (leaves : d ≡ 
         ap (first_unread means nodes constants n) is
         ∙ ap (λ o. or_later (n + 1) o (first_unread means nodes constants (n + 1) (rest c.rows))) none
         ∙ ap (λ (x : Cut). first_unread means nodes constants (n + 1) x.rows) (sym leaves)
+
+  -- the same of the frames before that row
+  module _ (means : ℕ → ℕ → Meaning) (nodes : List Node) (constants : List ℤ) (frame : List ℕ → Mark → List ℕ) where
+    pub before_later : refusal means nodes constants r.bytes ≡ None → frames_before means nodes constants frame c.rows ≡ frame r.bytes r.mark ++ frames_before means nodes constants frame d.rows
+    before_later none =
+        ap (frames_before means nodes constants frame) is
+        ∙ ap (λ o. if_read o (frame r.bytes r.mark ++ frames_before means nodes constants frame (rest c.rows))) none
+        ∙ ap (λ (x : Cut). frame r.bytes r.mark ++ frames_before means nodes constants frame x.rows) (sym leaves)

@@ -1,6 +1,7 @@
--- Which row of an export stops its being written from its reports.
-use Rattle.std.specs.Prelude.{ℕ, ◌+◌, List, [], ◌∷◌, ℤ, Some, None, Option}
+-- Which row of an export stops its being written from its reports, and what is written before it.
+use Rattle.std.specs.Prelude.{ℕ, ◌+◌, List, [], ◌∷◌, ◌++◌, ℤ, Some, None, Option}
 use Rattle.rows.specs.Cuts.{RowAt}
+use Rattle.rows.specs.declared.piece.Mark.{Mark}
 use Rattle.fields.specs.Meanings.{Meaning}
 use Rattle.layout.specs.declared.node.Node.{Node}
 use Rattle.reader.specs.declared.refusal.Refusal.{Refusal}
@@ -15,3 +16,12 @@ or_later n (Some e) later = Some (n, e)
 abbrev pub first_unread : (ℕ → ℕ → Meaning) → List Node → List ℤ → ℕ → List RowAt → Option (ℕ × Refusal)
 first_unread means nodes constants n [] = None
 first_unread means nodes constants n (r ∷ rs) = or_later (n + 1) (refusal means nodes constants r.bytes) (first_unread means nodes constants (n + 1) rs)
+
+-- the frames of the rows before that one
+abbrev pub if_read : Option Refusal → List ℕ → List ℕ
+if_read None bytes = bytes
+if_read (Some e) bytes = []
+
+abbrev pub frames_before : (ℕ → ℕ → Meaning) → List Node → List ℤ → (List ℕ → Mark → List ℕ) → List RowAt → List ℕ
+frames_before means nodes constants frame [] = []
+frames_before means nodes constants frame (r ∷ rs) = if_read (refusal means nodes constants r.bytes) (frame r.bytes r.mark ++ frames_before means nodes constants frame rs)

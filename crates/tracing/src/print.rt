@@ -1,5 +1,5 @@
 // An export written again, from the reports of its rows.
-ghost use Rattle.std.specs.Prelude.{◌≡◌, ◌+◌, ◌≤◌, [], length, None, OnOk, MatchResult};
+ghost use Rattle.std.specs.Prelude.{◌≡◌, ◌≤◌, length, None, OnOk, IfErr, MatchResult};
 ghost use Rattle.std.specs.Io.KnownBytes.{Appends};
 ghost use Rattle.fields.specs.Laws.{Bytes};
 ghost use Rattle.layout.specs.Shapes.{sorts};
@@ -10,8 +10,8 @@ ghost use Rattle.rows.specs.Rules.{joined};
 ghost use Rattle.store.specs.Stored.{Framed};
 ghost use Rattle.tracing.specs.Refusals.{refusal};
 ghost use Rattle.reader.specs.Refusals.{refusal as row_refusal};
-ghost use Rattle.tracing.specs.Prints.{first_unread};
-ghost use Rattle.tracing.specs.Stops.{StopTold, UnreadTold};
+ghost use Rattle.tracing.specs.Prints.{first_unread, frames_before};
+ghost use Rattle.tracing.specs.Stops.{StopTold, UnreadTold, WrittenBefore, NothingIfRefused};
 
 use crate::stop::Stop;
 use crate::workspace::{Desk, Under, Workspace, take_up};
@@ -60,7 +60,9 @@ fn print_rows<R: RowRule, F: Family, W: Write>(
     requires few { length (R.ahead rule.old file.now).rows ≤ 16777216 }
     requires known { Known (F.means under.now.family.now) under.now.layout.now.nodes.items }
     requires room { length (joined (R.means rule.old) (texts (R.ahead rule.old file.now).rows) (R.ahead rule.old file.now).tail.bytes) ≤ length buffer.old }
-    ensures { MatchResult result (λ _. (first_unread (F.means under.now.family.now) under.now.layout.now.nodes.items under.now.layout.now.constants.items 0 (R.ahead rule.old file.now).rows ≡ None) × Appends (W.contents out.old) (W.contents out.new) (joined (R.means rule.old) (texts (R.ahead rule.old file.now).rows) (R.ahead rule.old file.now).tail.bytes)) (StopTold None (first_unread (F.means under.now.family.now) under.now.layout.now.nodes.items under.now.layout.now.constants.items 0 (R.ahead rule.old file.now).rows)) }
+    ensures written { OnOk result (Appends (W.contents out.old) (W.contents out.new) (joined (R.means rule.old) (texts (R.ahead rule.old file.now).rows) (R.ahead rule.old file.now).tail.bytes)) }
+    ensures cases { MatchResult result (λ _. first_unread (F.means under.now.family.now) under.now.layout.now.nodes.items under.now.layout.now.constants.items 0 (R.ahead rule.old file.now).rows ≡ None) (StopTold None (first_unread (F.means under.now.family.now) under.now.layout.now.nodes.items under.now.layout.now.constants.items 0 (R.ahead rule.old file.now).rows)) }
+    ensures before { IfErr result (WrittenBefore (W.contents out.old) (W.contents out.new) (frames_before (F.means under.now.family.now) under.now.layout.now.nodes.items under.now.layout.now.constants.items (R.means rule.old).frame (R.ahead rule.old file.now).rows)) }
 {
     let mut number = 0;
     loop {
@@ -97,7 +99,10 @@ pub fn print_file<R: RowRule, F: Family, W: Write>(
     file: &[u8],
     out: &mut W,
 ) -> Result<(), Stop>
-    ensures { MatchResult result (λ _. (refusal (sorts (F.means family.now)) layout.now file.now ≡ None) × (first_unread (F.means family.now) (nodes_in layout.now) (constants_in layout.now) 0 ((R.means rule.old).cut file.now).rows ≡ None) × Appends (W.contents out.old) (W.contents out.new) file.now) (StopTold (refusal (sorts (F.means family.now)) layout.now file.now) (first_unread (F.means family.now) (nodes_in layout.now) (constants_in layout.now) 0 ((R.means rule.old).cut file.now).rows)) }
+    ensures written { OnOk result (Appends (W.contents out.old) (W.contents out.new) file.now) }
+    ensures cases { MatchResult result (λ _. (refusal (sorts (F.means family.now)) layout.now file.now ≡ None) × (first_unread (F.means family.now) (nodes_in layout.now) (constants_in layout.now) 0 ((R.means rule.old).cut file.now).rows ≡ None)) (StopTold (refusal (sorts (F.means family.now)) layout.now file.now) (first_unread (F.means family.now) (nodes_in layout.now) (constants_in layout.now) 0 ((R.means rule.old).cut file.now).rows)) }
+    ensures before { IfErr result (WrittenBefore (W.contents out.old) (W.contents out.new) (frames_before (F.means family.now) (nodes_in layout.now) (constants_in layout.now) (R.means rule.old).frame ((R.means rule.old).cut file.now).rows)) }
+    ensures nothing { IfErr result (NothingIfRefused out.old out.new) }
 {
     take_up(rule, family, &mut space.layout, layout, file)?;
     let mut buffer = vec![in heap; 0; file.len()].map_err(io::Error::from)?;

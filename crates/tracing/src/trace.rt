@@ -1,12 +1,12 @@
 // The trace of an export: a record for each row and each line of its report, and one for the tail.
-ghost use Rattle.std.specs.Prelude.{◌≡◌, ◌+◌, ◌≤◌, length, None, OnOk, MatchResult};
+ghost use Rattle.std.specs.Prelude.{◌≡◌, ◌≤◌, length, None, OnOk, IfErr, MatchResult};
 ghost use Rattle.std.specs.Io.KnownBytes.{Appends};
 ghost use Rattle.layout.specs.Shapes.{sorts};
 ghost use Rattle.layout.specs.Files.{nodes_in, constants_in};
 ghost use Rattle.store.specs.Stored.{report_of};
 ghost use Rattle.tracing.specs.Refusals.{refusal};
 ghost use Rattle.tracing.specs.Traces.{report_text, reading_text, trace_text, trace_from};
-ghost use Rattle.tracing.specs.Stops.{StopTold};
+ghost use Rattle.tracing.specs.Stops.{StopTold, NothingIfRefused};
 
 use crate::stop::Stop;
 use crate::workspace::{Desk, Under, Workspace, take_up};
@@ -97,7 +97,9 @@ pub fn write_trace<R: RowRule, F: Family, W: Write>(
     file: &[u8],
     out: &mut W,
 ) -> Result<(), Stop>
-    ensures { MatchResult result (λ _. (refusal (sorts (F.means family.now)) layout.now file.now ≡ None) × Appends (W.contents out.old) (W.contents out.new) (trace_text (R.means rule.old) (F.means family.now) (nodes_in layout.now) (constants_in layout.now) file.now)) (StopTold (refusal (sorts (F.means family.now)) layout.now file.now) None) }
+    ensures written { OnOk result (Appends (W.contents out.old) (W.contents out.new) (trace_text (R.means rule.old) (F.means family.now) (nodes_in layout.now) (constants_in layout.now) file.now)) }
+    ensures cases { MatchResult result (λ _. refusal (sorts (F.means family.now)) layout.now file.now ≡ None) (StopTold (refusal (sorts (F.means family.now)) layout.now file.now) None) }
+    ensures nothing { IfErr result (NothingIfRefused out.old out.new) }
 {
     take_up(rule, family, &mut space.layout, layout, file)?;
     let under = Under {

@@ -4,8 +4,9 @@ use Rattle.std.proofs.lemmas.List.{length-append}
 use Rattle.std.specs.Io.KnownBytes.{Appends}
 use Rattle.rows.specs.Cuts.{RowAt, texts}
 use Rattle.rows.specs.Rules.{Meaning, joined}
+use Rattle.tracing.specs.Prints.{frames_before}
 use Rattle.tracing.proofs.Puts.{is_put, taken}
-use Rattle.tracing.proofs.Steps.{one_less, frame_first, unread_later}
+use Rattle.tracing.proofs.Steps.{one_less, frame_first, unread_later, before_later}
 use Rattle.tracing.proofs.Streams.{Owes, owes_rest}
 use Rattle.tracing.proofs.print.print_rows.Goals as goal
 
@@ -44,10 +45,14 @@ loop-bytes-preserved g c =
     let owed = subst (λ x. Owes old (g.W.Write.contents c.loop-bytes.out) x all) step c.loop-bytes.invariant.owes in
     let gave = subst (λ x. Appends (g.W.Write.contents c.loop-bytes.out) (g.W.Write.contents c.write_all.new.self) x) (written ∙ framed) c.in_ok-write_all-in-Row.ensures.bytes in
     let under = c.args.under.now in
+    let above = frames_before (g.F.Family.means under.family.now) under.layout.now.nodes.items under.layout.now.constants.items m.frame in
+    let earlier = before_later before after r was.tells was.leaves (g.F.Family.means under.family.now) under.layout.now.nodes.items under.layout.now.constants.items m.frame c.in_ok-read_row-in-Row.ensures.cases.0 in
+    let owed_above = subst (λ x. Owes old (g.W.Write.contents c.loop-bytes.out) x (above first.rows)) earlier c.loop-bytes.invariant.before in
     record {
       few = omega (arith, c.loop-bytes.invariant.few);
       kept = same;
       room = omega (arith, c.loop-bytes.invariant.room);
       owes = owes_rest _ _ _ (m.frame r.bytes r.mark) _ _ owed gave;
+      before = owes_rest _ _ _ (m.frame r.bytes r.mark) _ _ owed_above gave;
       unread = sym (unread_later before after r was.tells was.leaves (g.F.Family.means under.family.now) under.layout.now.nodes.items under.layout.now.constants.items c.loop-bytes.number c.in_ok-read_row-in-Row.ensures.cases.0) ∙ c.loop-bytes.invariant.unread;
     }
