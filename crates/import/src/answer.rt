@@ -1,0 +1,51 @@
+// What the calls on an import answer.
+use crate::slip::Slip;
+use rows::piece::Mark;
+
+// A row that was handed out: its slip, its place in the file, and its mark.
+#[derive(PartialEq, Eq, Debug)]
+pub struct Opened {
+    pub slip: Slip,
+    pub start: usize,
+    pub length: usize,
+    pub mark: Mark,
+}
+
+// What next answers when it is not refused.
+#[derive(PartialEq, Eq, Debug)]
+pub enum Next {
+    // The next row of the file is open now.
+    Row(Opened),
+    // No row is left.
+    End,
+}
+
+// How many rows were opened, and how many of them were filed in each way. One record, since other things will come to be counted.
+#[derive(Clone, Copy, PartialEq, Eq, Debug)]
+pub struct Counts {
+    pub opened: u32,
+    pub kept: u32,
+    pub set_aside: u32,
+}
+
+// How a resent export differs from the first.
+#[derive(Clone, Copy, PartialEq, Eq, Debug)]
+pub enum Difference {
+    // The row has another report.
+    Report,
+    // The row has the same report and another mark.
+    Mark,
+    // The first export has no such row.
+    MissingInFirst,
+    // The resent export has no such row.
+    MissingInResent,
+    // Behind all rows another tail follows.
+    Tail,
+}
+
+// What matching a resent export against the first comes to: the same, or the number of the first row that differs, and how. A tail that differs is told with the number behind the last row's.
+#[derive(Clone, Copy, PartialEq, Eq, Debug)]
+pub enum Matched {
+    Same,
+    Differs { row: u32, how: Difference },
+}
