@@ -4,7 +4,7 @@
 mod pass;
 
 use crate::pass::{Counts, Memory, Work};
-use layout::header::LONGEST_FILE;
+use layout::header::longest_file;
 use rows::file::LONGEST;
 use std::fs::File;
 use std::io::Read;
@@ -32,7 +32,7 @@ fn measure(
     layout: &str,
     file: &str,
 ) -> anyhow::Result<()> {
-    let layout = read_up_to(rt, layout, LONGEST_FILE + 1)?;
+    let layout = read_up_to(rt, layout, longest_file() + 1)?;
     let bytes = read_up_to(rt, file, LONGEST)?;
     let mut memory = Memory::new(rt.alloc())?;
     if !memory.load(layout.as_slice()) {

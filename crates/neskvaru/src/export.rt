@@ -4,7 +4,7 @@ use crate::files::read_up_to;
 use cli::families::{AnyFamily, family_of};
 use cli::problems::Problem;
 use cli::rules::{AnyRule, RuleFault, rule_of};
-use layout::header::LONGEST_FILE;
+use layout::header::longest_file;
 use rows::file::LONGEST;
 use tracing::stop::{Refusal, Stop};
 
@@ -45,7 +45,7 @@ pub fn export_named<'a>(rt: &HostRuntime, words: Words<'a>) -> Result<Export, Fa
     let rule = rule_named(words.rule)?;
     let family = family_of(words.family).ok_or(Problem::NoFamily(words.family))?;
     // a byte more than the longest is refused like the whole of a longer file
-    let layout = read(rt, words.layout, LONGEST_FILE + 1)?;
+    let layout = read(rt, words.layout, longest_file() + 1)?;
     let file = read(rt, words.file, LONGEST + 1)?;
     Ok(Export {
         rule,
