@@ -23,6 +23,7 @@ mod prints;
 mod reads;
 mod scan;
 
+#[derive(Drop)]
 pub struct Import<F: Family, R: RowRule> {
     family: F,
     rule: R,
