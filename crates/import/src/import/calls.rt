@@ -1,5 +1,5 @@
 // The calls.
-ghost use Rattle.std.specs.Prelude.{◌≡◌, ℕ, List, length};
+ghost use Rattle.std.specs.Prelude.{◌≡◌, ℕ, List, length, OnErr};
 ghost use Rattle.import.specs.Answers.{said_next, said_place, said_filed, GivenBack, said_line, said_counts, written};
 ghost use Rattle.import.specs.Calls.{next, line, counts, keep, set_aside, closing};
 ghost use Rattle.import.specs.Steps.{file_row, step};
@@ -33,7 +33,8 @@ impl<F: Family, R: RowRule> Import<F, R> {
 
     // Opens the next row, and tells its place and its mark; none if no row is left.
     pub(crate) fn open_next(&mut self, file: &[u8]) -> Result<Option<Place>, Refusal>
-        ensures { (said_place (slip_of self.new.number self.new.counts.opened) result, model_of file.now self.new) ≡ step file.now (model_of file.now self.old) next }
+        ensures step { (said_place (slip_of self.new.number self.new.counts.opened) result, model_of file.now self.new) ≡ step file.now (model_of file.now self.old) next }
+        ensures unchanged { OnErr result ((other : List ℕ) → model_of other self.new ≡ model_of other self.old) }
     {
         match self.stage {
             Stage::Empty | Stage::Unread { .. } | Stage::Read => {
@@ -84,7 +85,8 @@ impl<F: Family, R: RowRule> Import<F, R> {
 
     // Opens the next row and hands it out under its slip, or says that none is left.
     pub fn next(&mut self, file: &[u8]) -> Result<Next, Refusal>
-        ensures { (said_next result, model_of file.now self.new) ≡ step file.now (model_of file.now self.old) next }
+        ensures step { (said_next result, model_of file.now self.new) ≡ step file.now (model_of file.now self.old) next }
+        ensures unchanged { OnErr result ((other : List ℕ) → model_of other self.new ≡ model_of other self.old) }
     {
         match self.open_next(file)? {
             Some(

@@ -15,7 +15,7 @@ file_open-requires g c =
     let m = model_of file c.args.self.now in
     let m1 = model_of file before in
     let s = slip before.number before.counts.opened in
-    let e : (said_place s (Ok (Some c.in-Ok-Some.place)), m1) ≡ step file m next = subst (λ r. (said_place s r, m1) ≡ step file m next) (c.in-Ok-Some.is ∙ ap Ok c.in-Ok-Some.field-0-is) c.open_next.ensures in
+    let e : (said_place s (Ok (Some c.in-Ok-Some.place)), m1) ≡ step file m next = subst (λ r. (said_place s r, m1) ≡ step file m next) (c.in-Ok-Some.is ∙ ap Ok c.in-Ok-Some.field-0-is) c.open_next.ensures.step in
     still_open file m c.requires s m1 c.in-Ok-Some.place (model_of file c.read-read.new.self) m1 e c.read-read.result (c.read-read.ensures.step file)
 
 pub returns-in-Ok : goal.returns-in-Ok
@@ -26,7 +26,7 @@ returns-in-Ok g c =
     let m = model_of file c.args.self.now in
     let m1 = model_of file before in
     let s = slip before.number before.counts.opened in
-    let e : (said_place s (Ok (Some c.in-Ok-Some.place)), m1) ≡ step file m next = subst (λ r. (said_place s r, m1) ≡ step file m next) (c.in-Ok-Some.is ∙ ap Ok c.in-Ok-Some.field-0-is) c.open_next.ensures in
+    let e : (said_place s (Ok (Some c.in-Ok-Some.place)), m1) ≡ step file m next = subst (λ r. (said_place s r, m1) ≡ step file m next) (c.in-Ok-Some.is ∙ ap Ok c.in-Ok-Some.field-0-is) c.open_next.ensures.step in
     scan_done file m c.requires s m1 c.in-Ok-Some.place (model_of file c.read-read.new.self) (model_of file after) e c.in-Ok.field-0 (c.in-Ok.ensures.step file) (c.file_open.ensures file) after.report after.standing refl
 
 pub returns-in-Err-read : goal.returns-in-Err-read
@@ -36,5 +36,5 @@ returns-in-Err-read g c =
     let m = model_of file c.args.self.now in
     let m1 = model_of file before in
     let s = slip before.number before.counts.opened in
-    let e : (said_place s (Ok (Some c.in-Ok-Some.place)), m1) ≡ step file m next = subst (λ r. (said_place s r, m1) ≡ step file m next) (c.in-Ok-Some.is ∙ ap Ok c.in-Ok-Some.field-0-is) c.open_next.ensures in
+    let e : (said_place s (Ok (Some c.in-Ok-Some.place)), m1) ≡ step file m next = subst (λ r. (said_place s r, m1) ≡ step file m next) (c.in-Ok-Some.is ∙ ap Ok c.in-Ok-Some.field-0-is) c.open_next.ensures.step in
     scan_refused file m c.requires s m1 c.in-Ok-Some.place (model_of file c.read-read.new.self) (model_of file c.file_open.new.self) e c.in-Err-read.why (c.in-Err-read.ensures.step file)
