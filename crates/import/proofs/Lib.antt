@@ -1,17 +1,17 @@
 -- Lemmas on imports.
-mod SlipLaws
+pub mod SlipLaws
 mod Heard
 mod Moments
-mod StepLaws
-mod RunLaws
-mod WholeRuns
-mod Fresh
+pub mod StepLaws
+pub mod RunLaws
+pub mod WholeRuns
 mod Printing
 mod Reading
-mod TwoFiles
+pub mod TwoFiles
 mod Comparing
-mod Matched
 mod ScanLaws
-mod WalkLaws
+mod Fresh
 mod MatchLaws
+mod Matched
+mod OneAnswer
 mod Exchange

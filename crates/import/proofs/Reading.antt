@@ -25,9 +25,9 @@ module _ (rule : rules.Meaning) (means : ℕ → ℕ → fields.Meaning) (nodes 
   pub stands_known : ((k p : ℕ) → families.Lawful (means k p)) → Bytes row → ∥ Known means nodes ∥₁ → ∥ StandsFor rule means nodes constants mark r ∥₁
   stands_known lawful b known = ∥∥₁_map known (stands_for lawful b)
 
-  pub clean_read : r.faults ≡ fault_count (report_of r) → (r.faults ≡ 0) ↔ (meets means nodes constants row ≡ true)
-  clean_read counted =
+  pub clean_read : (fault_count (report_of r) ≡ 0) ↔ (meets means nodes constants row ≡ true)
+  clean_read =
       let e = clean_row means nodes constants row in (
-        λ z. e.0 (ap fault_count (sym made.made.report) ∙ sym counted ∙ z),
-        λ m. counted ∙ ap fault_count made.made.report ∙ e.1 m,
+        λ z. e.0 (ap fault_count (sym made.made.report) ∙ z),
+        λ m. ap fault_count made.made.report ∙ e.1 m,
       )

@@ -1,10 +1,8 @@
 -- What opening, reading and setting aside one row after another comes to.
-use Rattle.std.proofs.Common.{◌≡◌, ℕ, ◌+◌, ◌≤◌, Bool, true, false, cond, List, [], ◌∷◌, length, Some, None, Option, Ok, Err, Result, ◌==◌, nat_le, refl, sym, ap, subst, ◌∙◌, arith}
+use Rattle.std.proofs.Common.{◌≡◌, ℕ, ◌+◌, ◌≤◌, Bool, true, false, cond, List, [], ◌∷◌, length, Some, None, Ok, Err, Result, ◌==◌, nat_le, refl, sym, ap, subst, ◌∙◌, arith}
 use Rattle.std.proofs.lemmas.Bool.{eq-eqb, leb-true, not_from_true}
 use Rattle.rows.specs.Cuts.{RowAt, Each, PartOf}
 use Rattle.rows.specs.declared.piece.Mark.{Mark}
-use Rattle.store.specs.declared.memory.Report.{Report}
-use Rattle.store.specs.Stored as stored
 use Rattle.import.specs.declared.slip.Slip.{Slip}
 use Rattle.import.specs.declared.answer.Opened.{Opened}
 use Rattle.import.specs.declared.stage.How.TheVariants.{SetAside}
@@ -12,14 +10,13 @@ use Rattle.import.specs.declared.stage.Place.{Place}
 use Rattle.import.specs.declared.refusal.Refusal.{Refusal}
 use Rattle.import.specs.declared.refusal.Refusal.TheVariants.{OtherLength}
 use Rattle.import.specs.Slips.{slip, part}
-use Rattle.import.specs.Models.{Standing, Model}
+use Rattle.import.specs.Models.{Model}
 use Rattle.import.specs.Calls.{Answer, refused, row, none, done, next, read}
 use Rattle.import.specs.Answers.{said_place, said_done}
 use Rattle.import.specs.Stages.{open_at}
-use Rattle.import.specs.States.{standing}
-use Rattle.import.specs.Steps.{Out, unless, tried, other_length, end_at, first_to_come, next_row, step_next, unreadable, report_of, read_row, file_row, step}
+use Rattle.import.specs.Steps.{Out, unless, tried, other_length, end_at, first_to_come, next_row, step_next, unreadable, read_row, file_row, step}
 use Rattle.import.specs.Tells.{refusing, says, read_says}
-use Rattle.import.specs.Scans.{Ready, tail_at, NextRow, NoRow, Unreadable}
+use Rattle.import.specs.Scans.{Ready, tail_at, NextRow, NoRow, Unreadable, Left}
 use Rattle.import.proofs.WholeRuns.{tried_says}
 
 -- where no test holds, the call is accepted
@@ -27,16 +24,21 @@ unless_done : (b : Bool) (why : Refusal) (m : Model) (a : Answer) (inner out : O
 unless_done true why m a inner out f e = absurd cc
 unless_done false why m a inner out f e = f e
 
-tried_done : (ts : List (Bool × Refusal)) (m : Model) (out : Out) → says ts done ≡ done → tried ts m out ≡ out
+pub tried_done : (ts : List (Bool × Refusal)) (m : Model) (out : Out) → says ts done ≡ done → tried ts m out ≡ out
 tried_done [] m out e = refl
 tried_done (t ∷ ts) m out e = unless_done t.0 t.1 m (says ts done) (tried ts m out) out (tried_done ts m out) e
 
+-- what holds of the import whether a test refuses or not
+unless_keeps : (P : Model → Type 0) (b : Bool) (why : Refusal) (m : Model) (inner : Out) → P m → P inner.1 → P (unless b why m inner).1
+unless_keeps P true why m inner x y = x
+unless_keeps P false why m inner x y = y
+
+pub tried_keeps : (P : Model → Type 0) (ts : List (Bool × Refusal)) (m : Model) (out : Out) → P m → P out.1 → P (tried ts m out).1
+tried_keeps P [] m out x y = y
+tried_keeps P (t ∷ ts) m out x y = unless_keeps P t.0 t.1 m (tried ts m out) x (tried_keeps P ts m out x y)
+
 same_mark : (o p : Opened) → row o ≡ row p → o.mark ≡ p.mark
 same_mark o p e = let z : o ≡ p = cc in ap (λ (q : Opened). q.mark) z
-
-some_report : (r : Report) (o : Option Mark) (s : Standing) → standing r o ≡ Some s → stored.report_of r ≡ s.report
-some_report r None s e = absurd cc
-some_report r (Some mark) s e = let z : record { report = stored.report_of r; mark = mark } ≡ s = cc in ap (λ (x : Standing). x.report) z
 
 module _ (file : List ℕ) (m : Model) (h : Ready file m) where
   right_length : (n : Model) → n.size ≡ m.size → (other_length file n).0 ≡ false
@@ -90,13 +92,13 @@ module _ (file : List ℕ) (m : Model) (h : Ready file m) where
     abbrev filed_now : Model
     filed_now = (file_row SetAside (read_row opened_now r.bytes r.mark).1).1
 
-    next_row_is : (rep : Report) (o : Option Mark) → standing rep o ≡ filed_now.standing → (mark : Mark) → mark ≡ r.mark → read_says m.setting r.bytes ≡ done → NextRow file m filed_now (stored.report_of rep) mark
-    next_row_is rep o t mark k readable = record {
+    next_row_is : (mark : Mark) → mark ≡ r.mark → read_says m.setting r.bytes ≡ done → NextRow file m filed_now mark
+    next_row_is mark k readable = record {
       row = r;
       is = e;
       its_mark = k;
       readable = readable;
-      its_report = some_report rep o (record { report = report_of m.setting r.bytes; mark = r.mark }) t;
+      stands = refl;
       ready = record {
         between = refl;
         size = h.size;
@@ -124,6 +126,13 @@ module _ (file : List ℕ) (m : Model) (h : Ready file m) where
         by_rows [] e = let d = ends e in record { none_left = e; told = ap (λ (o : Out). tail_at file o.1.stage) (f ∙ d.2) ∙ d.3 }
         by_rows (r ∷ rs) e = let z : none ≡ (first_to_come m (r ∷ rs) m.ahead.tail).0 = ap (λ (o : Out). o.0) (f ∙ opens r rs e) in absurd cc
 
+    pub none_left : (said_place sl (Ok None), m1) ≡ step file m next → Left m m1
+    none_left f = by_rows m.ahead.rows refl
+      where
+        by_rows : (rs : List RowAt) → m.ahead.rows ≡ rs → Left m m1
+        by_rows [] e = let d = ends e in record { means_stay = ap (λ (o : Out). o.1.setting.means) (f ∙ d.2); closed = ap (λ (o : Out). open_at o.1.stage) (f ∙ d.2) }
+        by_rows (r ∷ rs) e = let z : none ≡ (first_to_come m (r ∷ rs) m.ahead.tail).0 = ap (λ (o : Out). o.0) (f ∙ opens r rs e) in absurd cc
+
     pub scan_never : (why : Refusal) → (said_place sl (Err why), m1) ≡ step file m next → ⊥
     scan_never why f = by_rows m.ahead.rows refl
       where
@@ -132,8 +141,8 @@ module _ (file : List ℕ) (m : Model) (h : Ready file m) where
         by_rows (r ∷ rs) e = let z : refused why ≡ (first_to_come m (r ∷ rs) m.ahead.tail).0 = ap (λ (o : Out). o.0) (f ∙ opens r rs e) in absurd cc
 
     module _ (p : Place) (m2 m3 : Model) (f : (said_place sl (Ok (Some p)), m1) ≡ step file m next) where
-      pub scan_done : (u : Unit {0}) → (said_done (Ok u), m2) ≡ step file m1 read → m3 ≡ (file_row SetAside m2).1 → (rep : Report) (o : Option Mark) → standing rep o ≡ m3.standing → NextRow file m m3 (stored.report_of rep) p.mark
-      scan_done u k l rep o t =
+      pub scan_done : (u : Unit {0}) → (said_done (Ok u), m2) ≡ step file m1 read → m3 ≡ (file_row SetAside m2).1 → NextRow file m m3 p.mark
+      scan_done u k l =
           let d = opened_as p m.ahead.rows refl f in
           let r = d.0 in
           let q = k ∙ ap (λ x. step file x read) d.3 in
@@ -141,30 +150,25 @@ module _ (file : List ℕ) (m : Model) (h : Ready file m) where
           let after : m2 ≡ (read_row (opened_now r d.1 d.2) r.bytes r.mark).1 =
           ap (λ (o : Out). o.1) (q ∙ read_out r d.1 d.2 ∙ tried_done (unreadable m.setting r.bytes) (opened_now r d.1 d.2) (read_row (opened_now r d.1 d.2) r.bytes r.mark) readable) in
           let is : m3 ≡ filed_now r d.1 d.2 = l ∙ ap (λ x. (file_row SetAside x).1) after in
-          subst (λ x. NextRow file m x (stored.report_of rep) p.mark) (sym is) (next_row_is r d.1 d.2 rep o (t ∙ ap (λ (x : Model). x.standing) is) p.mark d.4 readable)
+          subst (λ x. NextRow file m x p.mark) (sym is) (next_row_is r d.1 d.2 p.mark d.4 readable)
 
-      pub scan_refused : (why : Refusal) → (said_done (Err why), m2) ≡ step file m1 read → Unreadable m
+      pub scan_refused : (why : Refusal) → (said_done (Err why), m2) ≡ step file m1 read → Unreadable m why
       scan_refused why k =
           let d = opened_as p m.ahead.rows refl f in
           let a : refused why ≡ read_says m.setting d.0.bytes = ap (λ (o : Out). o.0) (k ∙ ap (λ x. step file x read) d.3) ∙ read_answer d.0 d.1 d.2 in
-          record { row = d.0; rest = d.1; is = d.2; refused = λ z. refused_done (a ∙ z) }
-        where
-          refused_done : refused why ≡ done → ⊥
-          refused_done e = absurd cc
+          record { row = d.0; rest = d.1; is = d.2; refusal = sym a }
 
-      -- behind the read a row is open
+      -- behind a read a row is open, and the family means what it did
       pub still_open : (res : Result (Unit {0}) Refusal) → (said_done res, m2) ≡ step file m1 read → open_at m2.stage ≡ 1
       still_open res k =
           let d = opened_as p m.ahead.rows refl f in
-          ap (λ (o : Out). open_at o.1.stage) (k ∙ ap (λ x. step file x read) d.3 ∙ read_out d.0 d.1 d.2) ∙ stays d.0 d.1 d.2 (unreadable m.setting d.0.bytes)
-        where
-          by_test : (b : Bool) (why : Refusal) (n : Model) (inner : Out) → open_at n.stage ≡ 1 → open_at inner.1.stage ≡ 1 → open_at (unless b why n inner).1.stage ≡ 1
-          by_test true why n inner x y = x
-          by_test false why n inner x y = y
+          ap (λ (o : Out). open_at o.1.stage) (k ∙ ap (λ x. step file x read) d.3 ∙ read_out d.0 d.1 d.2)
+          ∙ tried_keeps (λ x. open_at x.stage ≡ 1) (unreadable m.setting d.0.bytes) (opened_now d.0 d.1 d.2) (read_row (opened_now d.0 d.1 d.2) d.0.bytes d.0.mark) refl refl
 
-          tests : (ts : List (Bool × Refusal)) (n : Model) (out : Out) → open_at n.stage ≡ 1 → open_at out.1.stage ≡ 1 → open_at (tried ts n out).1.stage ≡ 1
-          tests [] n out x y = y
-          tests (t ∷ ts) n out x y = by_test t.0 t.1 n (tried ts n out) x (tests ts n out x y)
-
-          stays : (r : RowAt) (rs : List RowAt) (e : m.ahead.rows ≡ r ∷ rs) (ts : List (Bool × Refusal)) → open_at (tried ts (opened_now r rs e) (read_row (opened_now r rs e) r.bytes r.mark)).1.stage ≡ 1
-          stays r rs e ts = tests ts (opened_now r rs e) (read_row (opened_now r rs e) r.bytes r.mark) refl refl
+      pub read_left : (res : Result (Unit {0}) Refusal) → (said_done res, m2) ≡ step file m1 read → m3 ≡ (file_row SetAside m2).1 → Left m m3
+      read_left res k l =
+          let d = opened_as p m.ahead.rows refl f in
+          let means : m2.setting.means ≡ m.setting.means =
+          ap (λ (o : Out). o.1.setting.means) (k ∙ ap (λ x. step file x read) d.3 ∙ read_out d.0 d.1 d.2)
+          ∙ tried_keeps (λ x. x.setting.means ≡ m.setting.means) (unreadable m.setting d.0.bytes) (opened_now d.0 d.1 d.2) (read_row (opened_now d.0 d.1 d.2) d.0.bytes d.0.mark) refl refl in
+          record { means_stay = ap (λ (x : Model). x.setting.means) l ∙ means; closed = ap (λ (x : Model). open_at x.stage) l }

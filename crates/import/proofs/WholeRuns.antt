@@ -206,6 +206,17 @@ module _ (bytes : List ℕ) (s : Setting) (number : ℕ) (g : Ground bytes (s.ru
   open_unread Read e o q = let u = at_stage Read e in absurd (nil_not_cons o [] (sym (unread_of (u.o ∷ []) (only_open number w u.os u.o u.row) ∙ one_gone (slips w.read) u.o u.was_read) ∙ q))
   open_unread (End start l) e o q = absurd (nil_not_cons o [] (sym (unread_of [] (none_open w (at_stage (End start l) e).closed)) ∙ q))
 
+  -- where no row is open and unread, a read is refused
+  read_none : (p : Stage) → n.stage ≡ p → open_of (slips w.read) (open_of w.spent w.opened) ≡ [] → (step_read bytes n p).0 ≡ refused WrongMoment
+  read_none Empty e q = refl
+  read_none Between e q = refl
+  read_none (Unread start l mark) e q =
+      let u = at_stage (Unread start l mark) e in
+      let unheard : among u.o.slip (slips w.read) ≡ false = u.new u.o.slip (omega (arith, ap (λ (t : Slip). t.row) u.row.own)) in
+      absurd (nil_not_cons u.o [] (sym (sym (one_left (slips w.read) u.o unheard) ∙ sym (unread_of (u.o ∷ []) (only_open number w u.os u.o u.row)) ∙ q)))
+  read_none Read e q = refl
+  read_none (End start l) e q = refl
+
   -- only rows that were opened were read
   pub only_opened_read : (p : Stage) → n.stage ≡ p → Unheard (length w.opened + 1) (slips w.read)
   only_opened_read Empty e = absurd (at_stage Empty e)
@@ -342,6 +353,7 @@ module _ (bytes : List ℕ) (s : Setting) (number : ℕ) (g : Ground bytes (s.ru
         stands = ap standing_report k.stands ∙ one_reported s bytes (slips w.read) w.opened;
         lines = λ i. ap (λ r. (step_line i n r).0) k.stands ∙ line_by bytes s number g w n k i (rows_of (slips w.read) (last_of w.opened));
         prints = λ room. ap (λ r. (step_print room n r).0) k.stands ∙ print_by bytes s number g w n k f prints room (rows_of (slips w.read) (last_of w.opened));
+        reads_no_other = read_none bytes s number g w n k n.stage refl;
         reads = λ o q. read_by bytes s number g w n k o (open_unread bytes s number g w n k n.stage refl o q);
         makes = λ o q. makes_by bytes s number g w n k o (open_unread bytes s number g w n k n.stage refl o q);
         closes = λ room. closing_by bytes s number g w n k room n.stage refl;

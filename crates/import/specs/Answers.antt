@@ -7,7 +7,10 @@ use Rattle.import.specs.declared.answer.Next.{Next}
 use Rattle.import.specs.declared.answer.Next.TheVariants.{Row, End}
 use Rattle.import.specs.declared.answer.Counts.{Counts}
 use Rattle.import.specs.declared.stage.Place.{Place}
+use Rattle.import.specs.declared.answer.Unmatched.{Unmatched}
+use Rattle.import.specs.declared.answer.Unmatched.TheVariants.{NotTaken, Unread}
 use Rattle.import.specs.declared.refusal.Refusal.{Refusal}
+use Rattle.import.specs.Refusals.{number_of}
 use Rattle.import.specs.Calls.{Answer, refused, row, none, done, wrote, found, counted}
 
 -- next
@@ -15,6 +18,17 @@ abbrev pub said_next : Result Next Refusal → Answer
 said_next (Ok (Row o)) = row o
 said_next (Ok End) = none
 said_next (Err why) = refused why
+
+-- where next says none
+abbrev pub IfEnded : Result Next Refusal → Type 0 → Type 0
+IfEnded (Ok (Row o)) x = Unit {0}
+IfEnded (Ok End) x = x
+IfEnded (Err why) x = Unit {0}
+
+abbrev pub IfNone : Result (Option Place) Refusal → Type 0 → Type 0
+IfNone (Ok None) x = x
+IfNone (Ok (Some p)) x = Unit {0}
+IfNone (Err why) x = Unit {0}
 
 -- the same of the row's place, under that slip
 abbrev pub said_place : Slip → Result (Option Place) Refusal → Answer
@@ -51,3 +65,8 @@ abbrev pub written : Answer → List ℕ → Result ℕ Refusal × List ℕ
 written (wrote bytes) buffer = (Ok (length bytes), laid bytes buffer)
 written (refused why) buffer = (Err why, buffer)
 written a buffer = (Ok 0, buffer)
+
+-- a match that is refused is known by the number of what was refused
+abbrev pub number_of_unmatched : Unmatched → ℕ
+number_of_unmatched (NotTaken side why) = number_of why
+number_of_unmatched (Unread side n why) = number_of why

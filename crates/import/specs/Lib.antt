@@ -8,10 +8,14 @@ pub mod Models
 pub mod Calls
 pub mod Answers
 pub mod Steps
+pub mod Looks
 pub mod News
 pub mod Runs
 pub mod Words
 pub mod Tells
+pub mod Prints
 pub mod Promises
 pub mod Scans
 pub mod Matching
+pub mod Walks
+pub mod Matchers

@@ -1,101 +1,82 @@
 -- Matching a resent export against the first, by what reading tells of their rows.
-use Rattle.std.specs.Prelude.{◌≡◌, ◌≢◌, ◌⊎◌, ◌↔◌, ℕ, ◌+◌, ◌≤◌, List, [], ◌∷◌, map, length, Some, None, Option, Ok, Err, Result}
-use Rattle.rows.specs.Cuts.{RowAt, Each, File}
+use Rattle.std.specs.Prelude.{◌≡◌, ◌≢◌, ◌⊎◌, ◌↔◌, ℕ, ◌+◌, List, [], ◌∷◌, map, Ok, Err, Result}
+use Rattle.rows.specs.Cuts.{RowAt, Each}
 use Rattle.rows.specs.Rules as rules
 use Rattle.rows.specs.declared.piece.Mark as marks
 use Rattle.fields.specs.Meanings as fields
-use Rattle.layout.specs.Shapes.{sorts}
-use Rattle.layout.specs.Files.{refusal}
 use Rattle.report.specs.Reports as reports
+use Rattle.import.specs.declared.answer.Side.TheVariants.{First, Resent}
 use Rattle.import.specs.declared.answer.Difference.TheVariants.{Report, Mark, MissingInFirst, MissingInResent, Tail}
 use Rattle.import.specs.declared.answer.Matched.{Matched}
 use Rattle.import.specs.declared.answer.Matched.TheVariants.{Same, Differs}
-use Rattle.import.specs.declared.stage.Stage.{Stage}
+use Rattle.import.specs.declared.answer.Unmatched.{Unmatched}
+use Rattle.import.specs.declared.answer.Unmatched.TheVariants.{NotTaken, Unread}
 use Rattle.import.specs.declared.refusal.Refusal.{Refusal}
-use Rattle.import.specs.Stages.{open_at}
-use Rattle.import.specs.Models.{Setting, under, Model}
-use Rattle.import.specs.Calls.{done}
-use Rattle.import.specs.Scans.{Ready}
-use Rattle.import.specs.Tells.{rows_in_file, tail_of, read_says, read_makes}
+use Rattle.import.specs.Models.{Setting, under}
+use Rattle.import.specs.Calls.{Answer, refused, done}
+use Rattle.import.specs.Steps.{report_of}
+use Rattle.import.specs.Tells.{rows_in_file, tail_of, read_says, new_says}
 
--- what is told of a row: its report, if its read is accepted, and its mark
+-- one side of a match: what its rule and its family mean, and its file
+pub record Export : Type 0 where
+  pub rule : rules.Meaning
+  pub means : ℕ → ℕ → fields.Meaning
+  pub file : List ℕ
+
+abbrev pub export : rules.Meaning → (ℕ → ℕ → fields.Meaning) → List ℕ → Export
+export rule means file = record { rule = rule; means = means; file = file }
+
+-- what is told of a row: what its read answers, its report, and its mark
 pub record RowTold : Type 0 where
-  pub report : List reports.Report
+  pub read : Answer
+  pub report : reports.Report
   pub mark : marks.Mark
 
 abbrev pub told_of : Setting → RowAt → RowTold
-told_of s r = record { report = read_makes s r.bytes; mark = r.mark }
+told_of s r = record { read = read_says s r.bytes; report = report_of s r.bytes; mark = r.mark }
 
-abbrev pub rows_told : Setting → List ℕ → List RowTold
-rows_told s file = map (told_of s) (rows_in_file s file)
+-- A call that is refused makes the match refused, told so; else it goes on.
+abbrev pub IfRefused : Answer → (Refusal → Unmatched) → Result Matched Unmatched → Type 0 → Type 0
+IfRefused (refused why) told res on = res ≡ Err (told why)
+IfRefused a told res on = on
 
--- the row of number n differs so
-abbrev pub RowDiffers : ℕ → RowTold → RowTold → Matched → Type 0
-RowDiffers n a b Same = ⊥
-RowDiffers n a b (Differs row how) = (row ≡ n) × (((how ≡ Report) × (a.report ≢ b.report)) ⊎ ((how ≡ Mark) × (a.report ≡ b.report) × (a.mark ≢ b.mark)))
+-- Where two are not equal, the match answers so; else it goes on.
+abbrev pub IfUnequal : {X : Type 0} → X → X → Matched → Result Matched Unmatched → Type 0 → Type 0
+IfUnequal x y answer res on = ((x ≢ y) × (res ≡ Ok answer)) ⊎ ((x ≡ y) × on)
 
--- What an answer says of the rows of two exports from number n on, and of the tails behind them: rows are compared one after another, and the first that differs decides.
-abbrev pub Says : ℕ → List RowTold → List ℕ → List RowTold → List ℕ → Matched → Type 0
-Says n [] t [] u Same = t ≡ u
-Says n [] t [] u (Differs row how) = (row ≡ n) × (how ≡ Tail) × (t ≢ u)
-Says n [] t (b ∷ ys) u Same = ⊥
-Says n [] t (b ∷ ys) u (Differs row how) = (row ≡ n) × (how ≡ MissingInFirst)
-Says n (a ∷ xs) t [] u Same = ⊥
-Says n (a ∷ xs) t [] u (Differs row how) = (row ≡ n) × (how ≡ MissingInResent)
-Says n (a ∷ xs) t (b ∷ ys) u m = RowDiffers n a b m ⊎ ((a ≡ b) × Says (n + 1) xs t ys u m)
+-- What is answered of the rows of two exports from number n on, and of the tails behind them. Row by row both are read, first's first, and then compared.
+abbrev pub RowsTold : Result Matched Unmatched → ℕ → List RowTold → List ℕ → List RowTold → List ℕ → Type 0
+RowsTold res n [] t [] u = IfUnequal t u (Differs n Tail) res (res ≡ Ok Same)
+RowsTold res n [] t (b ∷ ys) u = IfRefused b.read (Unread Resent n) res (res ≡ Ok (Differs n MissingInFirst))
+RowsTold res n (a ∷ xs) t [] u = IfRefused a.read (Unread First n) res (res ≡ Ok (Differs n MissingInResent))
+RowsTold res n (a ∷ xs) t (b ∷ ys) u =
+    IfRefused a.read (Unread First n) res (IfRefused b.read (Unread Resent n) res (
+    IfUnequal a.report b.report (Differs n Report) res (IfUnequal a.mark b.mark (Differs n Mark) res (RowsTold res (n + 1) xs t ys u))))
 
--- what is told of the rows that an import has to come
-abbrev pub ahead_told : Model → List RowTold
-ahead_told m = map (told_of m.setting) m.ahead.rows
+-- the same of all rows of two files, each under its setting
+abbrev pub FilesTold : Result Matched Unmatched → Setting → List ℕ → Setting → List ℕ → Type 0
+FilesTold res s file t other = RowsTold res 1 (map (told_of s) (rows_in_file s file)) (tail_of s file) (map (told_of t) (rows_in_file t other)) (tail_of t other)
 
-abbrev pub AheadReadable : Model → Type 0
-AheadReadable m = Each (λ r. read_says m.setting r.bytes ≡ done) m.ahead.rows
+-- What a match answers, whatever the layout file, the rules, the families and the files are: both exports are taken, first's first, and then their rows are told.
+abbrev pub Told : List ℕ → Export → Export → Result Matched Unmatched → Type 0
+Told layout a b res =
+    IfRefused (new_says a.means layout a.file) (NotTaken First) res (IfRefused (new_says b.means layout b.file) (NotTaken Resent) res (
+    FilesTold res (under a.rule a.means layout) a.file (under b.rule b.means layout) b.file))
 
--- what walking over two imports' rows side by side answers; it is refused only where the read of a row is
-abbrev pub Walked : ℕ → Model → Model → Result Matched Refusal → Type 0
-Walked n a b (Ok m) = Says n (ahead_told a) a.ahead.tail.bytes (ahead_told b) b.ahead.tail.bytes m
-Walked n a b (Err why) = AheadReadable a → AheadReadable b → ⊥
+-- There is one such answer.
+abbrev pub OneAnswer : Type 0
+OneAnswer = (layout : List ℕ) (a b : Export) (p q : Result Matched Unmatched) → Told layout a b p → Told layout a b q → p ≡ q
 
--- one row of each is the same, and both go on
-pub record GoesOn (f g : List ℕ) (n : ℕ) (a a' b b' : Model) : Type 0 where
-  pub first_ready : Ready f a'
-  pub resent_ready : Ready g b'
-  pub fewer : length a.ahead.rows ≡ length a'.ahead.rows + 1
-  pub carries : (res : Result Matched Refusal) → Walked (n + 1) a' b' res → Walked n a b res
+-- a read of any row of the export is accepted
+abbrev pub EveryRowReadable : List ℕ → Export → Type 0
+EveryRowReadable layout e = Each (λ r. read_says (under e.rule e.means layout) r.bytes ≡ done) (rows_in_file (under e.rule e.means layout) e.file)
 
--- an answer, or both go on
-abbrev pub Compares : List ℕ → List ℕ → ℕ → Model → Model → Model → Model → Result (Option Matched) Refusal → Type 0
-Compares f g n a a' b b' (Ok None) = GoesOn f g n a a' b b'
-Compares f g n a a' b b' (Ok (Some m)) = Walked n a b (Ok m)
-Compares f g n a a' b b' (Err why) = Walked n a b (Err why)
+-- Under one rule and family, where a match is not refused, so that both exports were taken and every read that it made was accepted, the answer is that they are the same exactly when the two files are equal.
+abbrev pub SameWhereRead : Export → Export → Result Matched Unmatched → Type 0
+SameWhereRead a b (Ok m) = a.rule ≡ b.rule → a.means ≡ b.means → (m ≡ Same) ↔ (a.file ≡ b.file)
+SameWhereRead a b (Err why) = Unit {0}
 
--- a read of any row of the file is accepted
-abbrev pub EveryRowReadable : Setting → List ℕ → Type 0
-EveryRowReadable s file = Each (λ r. read_says s r.bytes ≡ done) (rows_in_file s file)
-
--- Where every read is accepted, the answer is that they are the same exactly when the two files are equal.
-abbrev pub MatchTells : rules.Meaning → (ℕ → ℕ → fields.Meaning) → Type 0
-MatchTells rule means = (layout a b : List ℕ) (m : Matched) → refusal (sorts means) layout ≡ None → File a → File b →
-    EveryRowReadable (under rule means layout) a → EveryRowReadable (under rule means layout) b →
-    Says 1 (rows_told (under rule means layout) a) (tail_of (under rule means layout) a) (rows_told (under rule means layout) b) (tail_of (under rule means layout) b) m →
-    (m ≡ Same) ↔ (a ≡ b)
-
--- What a match says of two files under one setting; where every read is accepted, it says the same exactly of equal files.
-pub record MatchSaid (s : Setting) (one other : List ℕ) (m : Matched) : Type 0 where
-  pub says : Says 1 (rows_told s one) (tail_of s one) (rows_told s other) (tail_of s other) m
-  pub same : EveryRowReadable s one → EveryRowReadable s other → (m ≡ Same) ↔ (one ≡ other)
-
--- nothing stands in the way of a match: no row is open in either import, both files are within the limit, the layout is accepted, and so is every read
-pub record Matchable (rule : rules.Meaning) (means : ℕ → ℕ → fields.Meaning) (layout one other : List ℕ) (p q : Stage) : Type 0 where
-  pub first_closed : open_at p ≡ 0
-  pub resent_closed : open_at q ≡ 0
-  pub one_fits : length one ≤ 16777216
-  pub other_fits : length other ≤ 16777216
-  pub accepted : refusal (sorts means) layout ≡ None
-  pub one_readable : EveryRowReadable (under rule means layout) one
-  pub other_readable : EveryRowReadable (under rule means layout) other
-
--- What a match answers, for a rule and a family that are the same on both sides: it is refused only where something stands in the way.
-abbrev pub MatchAnswers : rules.Meaning → (ℕ → ℕ → fields.Meaning) → List ℕ → List ℕ → List ℕ → Stage → Stage → Result Matched Refusal → Type 0
-MatchAnswers rule means layout one other p q (Ok m) = MatchSaid (under rule means layout) one other m
-MatchAnswers rule means layout one other p q (Err why) = Matchable rule means layout one other p q → ⊥
+-- And where neither export is refused and a read of any of their rows is accepted, it is not refused.
+abbrev pub SameExactly : List ℕ → Export → Export → Result Matched Unmatched → Type 0
+SameExactly layout a b res = a.rule ≡ b.rule → a.means ≡ b.means → new_says a.means layout a.file ≡ done → new_says b.means layout b.file ≡ done →
+    EveryRowReadable layout a → EveryRowReadable layout b → (res ≡ Ok Same) ↔ (a.file ≡ b.file)

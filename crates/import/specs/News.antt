@@ -1,19 +1,20 @@
 -- What new answers, and what the import is after it; and an import that is made empty.
-use Rattle.std.specs.Prelude.{ℕ, List, [], ◌∷◌, length, Some, None, Option, nat_lt}
+use Rattle.std.specs.Prelude.{ℕ, Bool, List, [], ◌∷◌, length, None, nat_lt}
+use Rattle.std.specs.Option.{option_map}
 use Rattle.rows.specs.Cuts.{Cut}
 use Rattle.rows.specs.Rules as rules
 use Rattle.fields.specs.Meanings as fields
-use Rattle.layout.specs.declared.refusal.Refusal as layouts
 use Rattle.layout.specs.Trees.{blank}
 use Rattle.layout.specs.Shapes.{sorts}
 use Rattle.layout.specs.Files.{refusal}
 use Rattle.import.specs.declared.answer.Counts.{Counts}
 use Rattle.import.specs.declared.stage.Stage.{Stage}
 use Rattle.import.specs.declared.stage.Stage.TheVariants.{Empty, Between, Unread, Read, End}
+use Rattle.import.specs.declared.refusal.Refusal.{Refusal}
 use Rattle.import.specs.declared.refusal.Refusal.TheVariants.{Layout, FileTooLong, WrongMoment}
 use Rattle.import.specs.Models.{Setting, under, Model}
 use Rattle.import.specs.Calls.{done}
-use Rattle.import.specs.Steps.{Out, no, tried}
+use Rattle.import.specs.Steps.{Out, no, tried, test_of}
 
 abbrev pub no_counts : Counts
 no_counts = record { opened = 0; kept = 0; set_aside = 0 }
@@ -30,15 +31,12 @@ empty s ahead = record { setting = s; number = 0; size = 0; stage = Empty; count
 abbrev pub fresh : Setting → ℕ → List ℕ → Model
 fresh s number file = record { setting = s; number = number; size = length file; stage = Between; counts = no_counts; ahead = s.rule.cut file; standing = None }
 
--- done, or refused for the layout
-abbrev pub by_layout : Option layouts.Refusal → Model → Model → Out
-by_layout None m n = (done, n)
-by_layout (Some why) m n = no (Layout why) m
+-- the reasons not to take a file: it is too long, and then those of its layout file
+abbrev pub untakable : (ℕ → ℕ → fields.Meaning) → List ℕ → List ℕ → List (Bool × Refusal)
+untakable means layout file = (nat_lt 16777216 (length file), FileTooLong) ∷ test_of (option_map Layout (refusal (sorts means) layout))
 
--- a file that is too long is refused before the layout is looked at
 abbrev pub take_file : Model → ℕ → List ℕ → rules.Meaning → List ℕ → Out
-take_file m number layout rule file =
-    tried ((nat_lt 16777216 (length file), FileTooLong) ∷ []) m (by_layout (refusal (sorts m.setting.means) layout) m (fresh (under rule m.setting.means layout) number file))
+take_file m number layout rule file = tried (untakable m.setting.means layout file) m (done, fresh (under rule m.setting.means layout) number file)
 
 abbrev pub new_at : Model → Stage → ℕ → List ℕ → rules.Meaning → List ℕ → Out
 new_at m Empty number layout rule file = take_file m number layout rule file

@@ -1,5 +1,5 @@
 -- What holds of every import, for every lawful rule and family, every accepted layout, every file within the limit, and every list of calls.
-use Rattle.std.specs.Prelude.{◌≡◌, ℕ, ◌+◌, ◌<◌, ◌≤◌, Bool, true, ◌↔◌, List, [], ◌∷◌, ◌++◌, map, length, take, drop, None, ◌≢◌}
+use Rattle.std.specs.Prelude.{◌≡◌, ℕ, ◌+◌, ◌<◌, ◌≤◌, Bool, true, ◌↔◌, List, [], ◌∷◌, ◌++◌, map, length, take, drop, Some, None, Option, Ok, Err, Result, ◌≢◌}
 use Rattle.std.specs.List.{AllByRecursion}
 use Rattle.rows.specs.Cuts.{Text, texts, Bytes, File}
 use Rattle.rows.specs.Rules as rules
@@ -11,8 +11,10 @@ use Rattle.report.specs.Meets.{meets}
 use Rattle.import.specs.declared.slip.Slip.{Slip}
 use Rattle.import.specs.declared.answer.Opened.{Opened}
 use Rattle.import.specs.Slips.{slip, among, slips, slips_from, rows_of, rows_at}
-use Rattle.import.specs.Models.{Setting, under, Model}
-use Rattle.import.specs.Calls.{Call, next, read, print, line, keep, set_aside, counts, closing, none, counted, accepted}
+use Rattle.import.specs.declared.refusal.Refusal.{Refusal}
+use Rattle.import.specs.declared.refusal.Refusal.TheVariants.{WrongMoment}
+use Rattle.import.specs.Models.{Setting, under, Standing, Model}
+use Rattle.import.specs.Calls.{Call, next, read, print, line, keep, set_aside, counts, closing, refused, none, counted, accepted}
 use Rattle.import.specs.News.{fresh}
 use Rattle.import.specs.Runs.{answer, behind, Said, history, after, standing_report, made}
 use Rattle.import.specs.Words.{opened_rows, kept_rows, set_aside_rows, slips_spent, open_rows, read_rows, unread_rows, ready_rows, reported_rows, has_ended}
@@ -49,7 +51,8 @@ pub record Holds (file : List ℕ) (s : Setting) (number : ℕ) (h : List Said) 
   pub stands : standing_report n.standing ≡ map (defined s file) (reported_rows h)
   pub lines : (i : ℕ) → answer file n (line i) ≡ line_says s file i (reported_rows h)
   pub prints : (room : ℕ) → answer file n (print room) ≡ print_says s file room (reported_rows h)
-  -- A read of a row that is open and unread goes by the row's bytes and the layout alone.
+  -- A read is refused where no row is open and unread; of a row that is, it goes by the row's bytes and the layout alone.
+  pub reads_no_other : unread_rows h ≡ [] → answer file n read ≡ refused WrongMoment
   pub reads : (o : Opened) → unread_rows h ≡ o ∷ [] → answer file n read ≡ read_says s (bytes_at file o)
   pub makes : (o : Opened) → unread_rows h ≡ o ∷ [] → standing_report (behind file n read).standing ≡ read_makes s (bytes_at file o)
   -- Closing writes the file's tail, once next has said none.
@@ -108,7 +111,14 @@ ReportsToldApart rule other means = (layout a b : List ℕ) (i j : ℕ) (cs ds :
     reported_rows (history b (fresh (under other means layout) j b) ds) ≡ p ∷ [] →
     (standing_report (after a (fresh (under rule means layout) i a) cs).standing ≡ standing_report (after b (fresh (under other means layout) j b) ds).standing) ↔ (bytes_at a o ≡ bytes_at b p)
 
--- What comparing the reports that stand in two imports has to say, whatever runs led to them: the reports are equal exactly when their rows hold the same bytes.
+-- what comparing the reports that stand in two imports answers: whether they are equal; 12 unless one stands in both
+abbrev pub CompareSays : Option Standing → Option Standing → Result Bool Refusal → Type 0
+CompareSays (Some r) (Some q) (Ok same) = (same ≡ true) ↔ (r.report ≡ q.report)
+CompareSays (Some r) (Some q) (Err why) = ⊥
+CompareSays (Some r) None res = res ≡ Err WrongMoment
+CompareSays None q res = res ≡ Err WrongMoment
+
+-- What it has to say of their rows, whatever runs led to them: the reports are equal exactly when their rows hold the same bytes.
 -- `m` and `n` are what the imports are, by the file at hand.
 abbrev pub Compared : rules.Meaning → rules.Meaning → (ℕ → ℕ → fields.Meaning) → (List ℕ → Model) → (List ℕ → Model) → Bool → Type 0
 Compared rule other means m n same = (layout a b : List ℕ) (i j : ℕ) (cs ds : List Call) (o p : Opened) → refusal (sorts means) layout ≡ None → File a → File b →

@@ -3,13 +3,13 @@ use Rattle.std.specs.Prelude.{◌≡◌, ℕ, ◌+◌, ◌≤◌, List, [], ◌�
 use Rattle.rows.specs.Cuts.{RowAt}
 use Rattle.rows.specs.Rules.{Parts}
 use Rattle.rows.specs.declared.piece.Mark.{Mark}
-use Rattle.report.specs.Reports as reports
 use Rattle.import.specs.declared.stage.Stage.{Stage}
 use Rattle.import.specs.declared.stage.Stage.TheVariants.{Empty, Between, Unread, Read, End}
 use Rattle.import.specs.declared.refusal.Refusal.{Refusal}
 use Rattle.import.specs.Slips.{part}
+use Rattle.import.specs.Stages.{open_at}
 use Rattle.import.specs.Models.{Model}
-use Rattle.import.specs.Calls.{done}
+use Rattle.import.specs.Calls.{refused, done}
 use Rattle.import.specs.Steps.{report_of}
 use Rattle.import.specs.Tells.{read_says}
 
@@ -29,12 +29,12 @@ tail_at file Read = []
 tail_at file (End start n) = part file start n
 
 -- the first row to come was read, and its report stands; it is gone, and all else to come stays
-pub record NextRow (file : List ℕ) (m n : Model) (r : reports.Report) (mark : Mark) : Type 0 where
+pub record NextRow (file : List ℕ) (m n : Model) (mark : Mark) : Type 0 where
   pub row : RowAt
   pub is : m.ahead.rows ≡ row ∷ n.ahead.rows
   pub its_mark : mark ≡ row.mark
   pub readable : read_says m.setting row.bytes ≡ done
-  pub its_report : r ≡ report_of m.setting row.bytes
+  pub stands : n.standing ≡ Some (record { report = report_of m.setting row.bytes; mark = row.mark })
   pub ready : Ready file n
   pub setting : n.setting ≡ m.setting
   pub tail : n.ahead.tail ≡ m.ahead.tail
@@ -45,13 +45,18 @@ pub record NoRow (file : List ℕ) (m n : Model) : Type 0 where
   pub told : tail_at file n.stage ≡ m.ahead.tail.bytes
 
 -- the read of the first row to come is refused
-pub record Unreadable (m : Model) : Type 0 where
+pub record Unreadable (m : Model) (why : Refusal) : Type 0 where
   pub row : RowAt
   pub rest : List RowAt
   pub is : m.ahead.rows ≡ row ∷ rest
-  pub refused : read_says m.setting row.bytes ≡ done → ⊥
+  pub refusal : read_says m.setting row.bytes ≡ refused why
 
-abbrev pub Scanned : List ℕ → Model → Model → reports.Report → Result (Option Mark) Refusal → Type 0
-Scanned file m n r (Ok None) = NoRow file m n
-Scanned file m n r (Ok (Some mark)) = NextRow file m n r mark
-Scanned file m n r (Err why) = Unreadable m
+-- what every scan leaves: the family means what it did, and no row is open
+pub record Left (m n : Model) : Type 0 where
+  pub means_stay : n.setting.means ≡ m.setting.means
+  pub closed : open_at n.stage ≡ 0
+
+abbrev pub Scanned : List ℕ → Model → Model → Result (Option Mark) Refusal → Type 0
+Scanned file m n (Ok None) = NoRow file m n
+Scanned file m n (Ok (Some mark)) = NextRow file m n mark
+Scanned file m n (Err why) = Unreadable m why

@@ -1,9 +1,11 @@
 -- What each call answers, and what the import is after it: a clause for each call and stage. `file` is the file that the call is handed.
 use Rattle.std.specs.Prelude.{ℕ, ◌+◌, ◌-◌, Bool, true, false, cond, not, List, [], ◌∷◌, length, Some, None, Option, slice_get, ◌==◌, nat_le, nat_lt}
+use Rattle.std.specs.Option.{option_map}
 use Rattle.rows.specs.Cuts.{RowAt, TailAt}
 use Rattle.rows.specs.declared.piece.Mark.{Mark}
 use Rattle.report.specs.declared.line.Line.{Line}
 use Rattle.report.specs.Reports as reports
+use Rattle.reader.specs.Refusals as readers
 use Rattle.import.specs.declared.slip.Slip.{Slip}
 use Rattle.import.specs.declared.stage.Stage.{Stage}
 use Rattle.import.specs.declared.stage.Stage.TheVariants.{Empty, Between, Unread, Read, End}
@@ -11,7 +13,8 @@ use Rattle.import.specs.declared.stage.How.{How}
 use Rattle.import.specs.declared.stage.How.TheVariants.{Kept, SetAside}
 use Rattle.import.specs.declared.answer.Counts.{Counts}
 use Rattle.import.specs.declared.refusal.Refusal.{Refusal}
-use Rattle.import.specs.declared.refusal.Refusal.TheVariants.{OtherLength, RowTooLong, ReachTooFar, WrongMoment, OtherRow, RowHasFaults, BufferTooShort}
+use Rattle.import.specs.declared.refusal.Refusal.TheVariants.{OtherLength, WrongMoment, OtherRow, RowHasFaults, BufferTooShort}
+use Rattle.import.specs.Refusals.{of_reading}
 use Rattle.import.specs.Slips.{slip, same_slip, part}
 use Rattle.import.specs.Models.{Setting, Standing, Model}
 use Rattle.import.specs.Calls.{Call, next, read, print, line, file, counts, closing, Answer, refused, row, none, done, wrote, found, counted}
@@ -33,6 +36,11 @@ abbrev pub tried : List (Bool × Refusal) → Model → Out → Out
 tried [] m out = out
 tried (t ∷ ts) m out = unless t.0 t.1 m (tried ts m out)
 
+-- a refusal that is there, as a test
+abbrev pub test_of : Option Refusal → List (Bool × Refusal)
+test_of None = []
+test_of (Some why) = (true, why) ∷ []
+
 -- the file has another length than the one that new took
 abbrev pub other_length : List ℕ → Model → Bool × Refusal
 other_length bytes m = (not (length bytes == m.size), OtherLength)
@@ -45,7 +53,7 @@ no_room room bytes = (nat_lt room (length bytes), BufferTooShort)
 
 -- so many rows are opened, and the others as they were
 abbrev pub opened_one : Counts → Counts
-opened_one c = record { opened = c.opened + 1; kept = c.kept; set_aside = c.set_aside }
+opened_one c = record c { opened = c.opened + 1 }
 
 abbrev pub end_at : Model → ℕ → ℕ → Out
 end_at m start n = (none, record m { stage = End start n })
@@ -71,9 +79,9 @@ step_next bytes m (End start n) = tried (other_length bytes m ∷ []) m (none, m
 
 -- Read, at the row's place in the file as it is now.
 
--- the reasons not to read a row, whatever the file
+-- the reasons not to read a row, whatever the file: those of the reader
 abbrev pub unreadable : Setting → List ℕ → List (Bool × Refusal)
-unreadable s bytes = (nat_lt 4096 (length bytes), RowTooLong) ∷ (nat_lt 512 (reports.reach s.means s.nodes s.constants bytes), ReachTooFar) ∷ []
+unreadable s bytes = test_of (option_map of_reading (readers.refusal s.means s.nodes s.constants bytes))
 
 -- the report of a row
 abbrev pub report_of : Setting → List ℕ → reports.Report
@@ -126,8 +134,8 @@ unfit Kept s m = other_row s m ∷ (faulty m.standing, RowHasFaults) ∷ []
 unfit SetAside s m = other_row s m ∷ []
 
 abbrev pub filed_one : How → Counts → Counts
-filed_one Kept c = record { opened = c.opened; kept = c.kept + 1; set_aside = c.set_aside }
-filed_one SetAside c = record { opened = c.opened; kept = c.kept; set_aside = c.set_aside + 1 }
+filed_one Kept c = record c { kept = c.kept + 1 }
+filed_one SetAside c = record c { set_aside = c.set_aside + 1 }
 
 abbrev pub file_row : How → Model → Out
 file_row how m = (done, record m { stage = Between; counts = filed_one how m.counts })

@@ -2,6 +2,7 @@
 use Rattle.std.specs.Prelude.{ℕ, Bool, true, false, not, List, [], ◌∷◌, map, length, ◌==◌}
 use Rattle.rows.specs.Cuts.{RowAt}
 use Rattle.rows.specs.declared.piece.Mark.{Mark}
+use Rattle.fields.specs.Meanings as fields
 use Rattle.report.specs.Reports.{Report, fault_count}
 use Rattle.import.specs.declared.slip.Slip.{Slip}
 use Rattle.import.specs.declared.answer.Opened.{Opened}
@@ -11,6 +12,7 @@ use Rattle.import.specs.Slips.{slip, same_slip, part}
 use Rattle.import.specs.Models.{Setting}
 use Rattle.import.specs.Calls.{Answer, refused, row, none, done, wrote, found}
 use Rattle.import.specs.Steps.{no_room, unreadable, report_of, line_of}
+use Rattle.import.specs.News.{untakable}
 
 -- a file's rows and its tail are those to come when the rule is set on it
 abbrev pub rows_in_file : Setting → List ℕ → List RowAt
@@ -71,6 +73,10 @@ if_accepted a rs = rs
 -- the report that stands behind a read of a row that was unread; none stands if it was refused
 abbrev pub read_makes : Setting → List ℕ → List Report
 read_makes s bytes = if_accepted (read_says s bytes) (report_of s bytes ∷ [])
+
+-- new, where no row is open: by the file's length and the layout file
+abbrev pub new_says : (ℕ → ℕ → fields.Meaning) → List ℕ → List ℕ → Answer
+new_says means layout file = says (untakable means layout file) done
 
 -- line, by the row whose report stands, if there is one
 abbrev pub line_says : Setting → List ℕ → ℕ → List Opened → Answer

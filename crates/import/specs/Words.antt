@@ -1,5 +1,5 @@
 -- The words for what became of rows. Each is a list of rows in order, and a function of the calls and their answers alone.
-use Rattle.std.specs.Prelude.{Bool, true, false, cond, not, List, [], ◌∷◌, ◌++◌}
+use Rattle.std.specs.Prelude.{Bool, true, false, not, List, [], ◌∷◌, ◌++◌}
 use Rattle.std.specs.List.{list_any, filter, flat_map}
 use Rattle.import.specs.declared.slip.Slip.{Slip}
 use Rattle.import.specs.declared.stage.How.{How}
@@ -17,15 +17,10 @@ rows_in a = []
 abbrev pub opened_rows : List Said → List Opened
 opened_rows h = flat_map (λ s. rows_in s.answer) h
 
-abbrev pub same_how : How → How → Bool
-same_how Kept Kept = true
-same_how Kept SetAside = false
-same_how SetAside Kept = false
-same_how SetAside SetAside = true
-
 -- the slip that an accepted call filed, if it filed it so
 abbrev pub slip_filed : How → Answer → Call → List Slip
-slip_filed how done (file h s) = cond (same_how how h) (s ∷ []) []
+slip_filed Kept done (file Kept s) = s ∷ []
+slip_filed SetAside done (file SetAside s) = s ∷ []
 slip_filed how a c = []
 
 abbrev pub slips_filed : How → List Said → List Slip

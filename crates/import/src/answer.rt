@@ -1,4 +1,5 @@
 // What the calls on an import answer.
+use crate::refusal::Refusal;
 use crate::slip::Slip;
 use rows::piece::Mark;
 
@@ -48,4 +49,39 @@ pub enum Difference {
 pub enum Matched {
     Same,
     Differs { row: u32, how: Difference },
+}
+
+// Which of the two exports of a match.
+#[derive(Clone, Copy, PartialEq, Eq, Debug)]
+pub enum Side {
+    First,
+    Resent,
+}
+
+// Why two exports are not matched.
+#[derive(Clone, Copy, PartialEq, Eq, Debug)]
+pub enum Unmatched {
+    // The export of that side is not taken: it is too long, or the layout file is refused.
+    NotTaken { side: Side, why: Refusal },
+    // The read of that row of that side is refused.
+    Unread { side: Side, row: u32, why: Refusal },
+}
+
+impl Unmatched {
+    ghost use Rattle.std.specs.Prelude.{◌≡◌};
+    ghost use Rattle.import.specs.Answers.{number_of_unmatched};
+
+    // The number of the refusal.
+    pub fn number(self) -> u8
+        ensures { result ≡ number_of_unmatched self }
+    {
+        match self {
+            Unmatched::NotTaken { side: _, why } => why.number(),
+            Unmatched::Unread {
+                side: _,
+                row: _,
+                why,
+            } => why.number(),
+        }
+    }
 }

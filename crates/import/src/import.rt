@@ -15,13 +15,15 @@ use store::memory::Report;
 
 mod calls;
 mod compare;
+mod looks;
 mod made;
 pub mod matching;
 mod news;
-mod places;
+pub mod places;
 mod prints;
 mod reads;
 mod scan;
+mod walk;
 
 #[derive(Drop)]
 pub struct Import<F: Family, R: RowRule> {

@@ -1,9 +1,12 @@
 // Why a call on an import is refused.
-ghost use Rattle.std.specs.Prelude.{◌≡◌};
-ghost use Rattle.import.specs.Refusals.{number_of, of_reading};
+ghost use Rattle.std.specs.Prelude.{◌≡◌, Some};
+ghost use Rattle.import.specs.Refusals.{number_of, of_reading, text_of};
 
 use layout::refusal::Refusal as LayoutRefusal;
 use reader::refusal::Refusal as ReaderRefusal;
+use rows::refusal::Refusal as RulesRefusal;
+use std::error::Error;
+use std::fmt;
 
 // Each is known by its number; a refused call changes nothing.
 #[derive(Clone, Copy, PartialEq, Eq, Debug)]
@@ -55,3 +58,26 @@ impl Refusal {
         }
     }
 }
+
+// (Written out: a derive would not state the bytes.)
+impl fmt::Display for Refusal {
+    ghost output = { λ refusal. Some (text_of refusal) };
+
+    fn fmt<W: fmt::Write>(&self, f: &mut fmt::Formatter<W>) -> fmt::Result {
+        match *self {
+            Refusal::Layout(why) => write!(f, "{why}"),
+            Refusal::FileTooLong => f.write_str(RulesRefusal::FileTooLong.reason()),
+            Refusal::OtherLength => {
+                f.write_str("the file has another length than the one that was taken")
+            }
+            Refusal::RowTooLong => write!(f, "{}", ReaderRefusal::RowTooLong),
+            Refusal::ReachTooFar => write!(f, "{}", ReaderRefusal::TooManyLines),
+            Refusal::WrongMoment => f.write_str("the call comes at the wrong moment"),
+            Refusal::OtherRow => f.write_str("the slip is another row's"),
+            Refusal::RowHasFaults => f.write_str("a row with faults is not kept"),
+            Refusal::BufferTooShort => f.write_str(RulesRefusal::BufferTooShort.reason()),
+        }
+    }
+}
+
+impl Error for Refusal {}

@@ -1,8 +1,8 @@
-// The calls.
-ghost use Rattle.std.specs.Prelude.{◌≡◌, ℕ, List, length, OnErr};
-ghost use Rattle.import.specs.Answers.{said_next, said_place, said_filed, GivenBack, said_line, said_counts, written};
+// The calls but new, read and print, which have files of their own.
+ghost use Rattle.std.specs.Prelude.{◌≡◌, ℕ, List, length, Ok, OnErr};
+ghost use Rattle.import.specs.Answers.{said_next, said_place, said_filed, GivenBack, said_line, said_counts, written, IfEnded, IfNone};
 ghost use Rattle.import.specs.Calls.{next, line, counts, keep, set_aside, closing};
-ghost use Rattle.import.specs.Steps.{file_row, step};
+ghost use Rattle.import.specs.Steps.{file_row, next_row, step};
 ghost use Rattle.import.specs.Slips.{slip as slip_of, same_slip};
 ghost use Rattle.import.specs.Stages.{open_at};
 ghost use Rattle.import.specs.States.{model_of};
@@ -21,7 +21,7 @@ use rows::rule::RowRule;
 impl<F: Family, R: RowRule> Import<F, R> {
     // Tells how many rows were opened, kept and set aside.
     pub fn counts(&self) -> Result<Counts, Refusal>
-        ensures { (file : List ℕ) → said_counts result ≡ (step file (model_of file self.now) counts).0 }
+        ensures step { (file : List ℕ) → said_counts result ≡ (step file (model_of file self.now) counts).0 }
     {
         match self.stage {
             Stage::Empty => Err(Refusal::WrongMoment),
@@ -35,28 +35,37 @@ impl<F: Family, R: RowRule> Import<F, R> {
     pub(crate) fn open_next(&mut self, file: &[u8]) -> Result<Option<Place>, Refusal>
         ensures step { (said_place (slip_of self.new.number self.new.counts.opened) result, model_of file.now self.new) ≡ step file.now (model_of file.now self.old) next }
         ensures unchanged { OnErr result ((other : List ℕ) → model_of other self.new ≡ model_of other self.old) }
+        ensures ends { IfNone result ((other : List ℕ) → R.ahead self.new.rule other ≡ R.ahead self.old.rule other) }
     {
         match self.stage {
-            Stage::Empty | Stage::Unread { .. } | Stage::Read => {
-                return Err(Refusal::WrongMoment);
+            Stage::Empty | Stage::Unread { .. } | Stage::Read => Err(Refusal::WrongMoment),
+            Stage::Between => {
+                if file.len() != self.size {
+                    return Err(Refusal::OtherLength);
+                }
+                Ok(self.ask(file))
             }
-            Stage::Between => {}
             Stage::End { .. } => {
                 if file.len() != self.size {
                     return Err(Refusal::OtherLength);
                 }
-                return Ok(None);
+                Ok(None)
             }
         }
-        if file.len() != self.size {
-            return Err(Refusal::OtherLength);
-        }
+    }
+
+    // Asks the rule where no row is open: the next row is then open, or the tail is told.
+    fn ask(&mut self, file: &[u8]) -> Option<Place>
+        requires { open_at self.old.stage ≡ 0 }
+        ensures step { (said_place (slip_of self.new.number self.new.counts.opened) (Ok result), model_of file.now self.new) ≡ next_row (model_of file.now self.old) }
+        ensures ends { IfNone (Ok result) ((other : List ℕ) → R.ahead self.new.rule other ≡ R.ahead self.old.rule other) }
+    {
         if self.size <= self.counts.opened as usize {
             self.stage = Stage::End {
                 start: self.size,
                 length: 0,
             };
-            return Ok(None);
+            return None;
         }
         match self.rule.next(file) {
             Piece::Row { start, bytes, mark } => {
@@ -67,18 +76,18 @@ impl<F: Family, R: RowRule> Import<F, R> {
                     mark,
                 };
                 self.standing = None;
-                Ok(Some(Place {
+                Some(Place {
                     start,
                     length: bytes.len(),
                     mark,
-                }))
+                })
             }
             Piece::Tail { start, bytes } => {
                 self.stage = Stage::End {
                     start,
                     length: bytes.len(),
                 };
-                Ok(None)
+                None
             }
         }
     }
@@ -87,6 +96,7 @@ impl<F: Family, R: RowRule> Import<F, R> {
     pub fn next(&mut self, file: &[u8]) -> Result<Next, Refusal>
         ensures step { (said_next result, model_of file.now self.new) ≡ step file.now (model_of file.now self.old) next }
         ensures unchanged { OnErr result ((other : List ℕ) → model_of other self.new ≡ model_of other self.old) }
+        ensures ends { IfEnded result ((other : List ℕ) → R.ahead self.new.rule other ≡ R.ahead self.old.rule other) }
     {
         match self.open_next(file)? {
             Some(
@@ -170,7 +180,7 @@ impl<F: Family, R: RowRule> Import<F, R> {
 
     // Tells a line of the standing report by its number, from 1.
     pub fn line(&self, number: usize) -> Result<Option<Line>, Refusal>
-        ensures { (file : List ℕ) → said_line result ≡ (step file (model_of file self.now) (line number)).0 }
+        ensures step { (file : List ℕ) → said_line result ≡ (step file (model_of file self.now) (line number)).0 }
     {
         let Some(_) = self.standing else {
             return Err(Refusal::WrongMoment);
@@ -183,7 +193,7 @@ impl<F: Family, R: RowRule> Import<F, R> {
 
     // Writes the tail at a buffer's beginning, and says how long it is.
     pub fn closing(&self, file: &[u8], out: &mut [u8]) -> Result<usize, Refusal>
-        ensures { (result, out.new) ≡ written (step file.now (model_of file.now self.now) (closing (length out.old))).0 out.old }
+        ensures step { (result, out.new) ≡ written (step file.now (model_of file.now self.now) (closing (length out.old))).0 out.old }
     {
         let Stage::End { start, length } = self.stage else {
             return Err(Refusal::WrongMoment);

@@ -1,8 +1,7 @@
 // Comparing the reports that stand in two imports.
-ghost use Rattle.std.specs.Prelude.{◌≡◌, ◌↔◌, true, false, is_some, ◌&&◌, MatchResult};
+ghost use Rattle.std.specs.Prelude.{◌≡◌, ◌↔◌, ℕ, List, true, false, is_some, ◌&&◌, MatchResult};
 ghost use Rattle.store.specs.Stored.{report_of};
-ghost use Rattle.import.specs.declared.refusal.Refusal.TheVariants.{WrongMoment};
-ghost use Rattle.import.specs.Promises.{Compared};
+ghost use Rattle.import.specs.Promises.{CompareSays, ReportsToldApart, Compared};
 ghost use Rattle.import.specs.States.{model_of};
 
 use crate::import::Import;
@@ -45,8 +44,10 @@ impl<F: Family, R: RowRule> Import<F, R> {
     // Whether the report that stands here is equal to the one that stands in another import, whose rule may be another; refused unless a report stands in both.
     // Under one family and layout they are equal exactly when their rows hold the same bytes.
     pub fn same_report<Q: RowRule>(&self, other: &Import<F, Q>) -> Result<bool, Refusal>
-        ensures value { MatchResult result (λ same. (is_some self.now.standing && is_some other.now.standing ≡ true) × ((same ≡ true) ↔ (report_of self.now.report ≡ report_of other.now.report))) (λ why. (why ≡ WrongMoment) × (is_some self.now.standing && is_some other.now.standing ≡ false)) }
+        ensures value { (file : List ℕ) → CompareSays (model_of file self.now).standing (model_of file other.now).standing result }
+        ensures stands { MatchResult result (λ same. (is_some self.now.standing && is_some other.now.standing ≡ true) × ((same ≡ true) ↔ (report_of self.now.report ≡ report_of other.now.report))) (λ _. is_some self.now.standing && is_some other.now.standing ≡ false) }
         ensures rows { MatchResult result (λ same. Compared (R.means self.now.rule) (Q.means other.now.rule) (F.means self.now.family) (λ file. model_of file self.now) (λ file. model_of file other.now) same) (λ _. Unit {0}) }
+        ensures told_apart { ReportsToldApart (R.means self.now.rule) (Q.means other.now.rule) (F.means self.now.family) }
     {
         if self.standing.is_none() || other.standing.is_none() {
             return Err(Refusal::WrongMoment);

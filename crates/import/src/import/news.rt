@@ -29,7 +29,6 @@ impl<F: Family, R: RowRule> Import<F, R> {
         requires { open_at self.old.stage ≡ 0 }
         ensures step { (said_done result, model_of file.now self.new) ≡ take_file (model_of file.now self.old) number layout.now (R.means rule) file.now }
         ensures unchanged { OnErr result ((other : List ℕ) → model_of other self.new ≡ model_of other self.old) }
-        ensures runs { OnOk result ((calls : List Call) → WholeRun file.now (model_of file.now self.new) calls) }
     {
         if file.len() > LONGEST {
             return Err(Refusal::FileTooLong);
@@ -60,10 +59,9 @@ impl<F: Family, R: RowRule> Import<F, R> {
         ensures runs { OnOk result ((calls : List Call) → WholeRun file.now (model_of file.now self.new) calls) }
     {
         match self.stage {
-            Stage::Unread { .. } | Stage::Read => Err(Refusal::WrongMoment),
-            Stage::Empty | Stage::Between | Stage::End { .. } => {
-                self.take_file(number, layout, rule, file)
-            }
+            Stage::Unread { .. } | Stage::Read => return Err(Refusal::WrongMoment),
+            Stage::Empty | Stage::Between | Stage::End { .. } => {}
         }
+        self.take_file(number, layout, rule, file)
     }
 }

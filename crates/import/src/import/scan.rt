@@ -1,7 +1,6 @@
 // Going over the rows of a file, one after another.
 ghost use Rattle.std.specs.Prelude.{◌≡◌};
-ghost use Rattle.store.specs.Stored.{report_of};
-ghost use Rattle.import.specs.Scans.{Ready, Scanned, tail_at};
+ghost use Rattle.import.specs.Scans.{Ready, Left, Scanned, tail_at};
 ghost use Rattle.import.specs.States.{model_of};
 
 use crate::import::Import;
@@ -16,7 +15,8 @@ impl<F: Family, R: RowRule> Import<F, R> {
     // Opens the next row, reads it, and sets it aside; its report then stands. None if no row is left, and a refusal if the row's read is refused.
     pub(crate) fn scan(&mut self, file: &[u8]) -> Result<Option<Mark>, Refusal>
         requires { Ready file.now (model_of file.now self.old) }
-        ensures { Scanned file.now (model_of file.now self.old) (model_of file.now self.new) (report_of self.new.report) result }
+        ensures scanned { Scanned file.now (model_of file.now self.old) (model_of file.now self.new) result }
+        ensures left { Left (model_of file.now self.old) (model_of file.now self.new) }
     {
         match self.open_next(file) {
             Err(why) => Err(why),
