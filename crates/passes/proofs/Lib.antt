@@ -1,0 +1,5 @@
+-- Lemmas on passes.
+pub mod PassLaws
+pub mod WalkLaws
+pub mod Filing
+pub mod Joined

@@ -1,0 +1,3 @@
+-- The definitions that the contracts of passes cite.
+pub mod Passes
+pub mod Walks
