@@ -10,7 +10,6 @@ use crate::case::{Case, case_in};
 use crate::compare::first_difference;
 use anyhow::{Context, Result, anyhow};
 use std::{env, fs, str};
-use tracing::workspace::Workspace;
 
 // What closes a case.
 const END: &str = "\nend\n";
@@ -23,10 +22,10 @@ struct Tally {
 }
 
 // Whether a case agrees; where it does not, its name and the first lines that differ are printed.
-fn agrees(rt: &HostRuntime, space: &mut Workspace, case: &Case) -> Result<bool> {
+fn agrees(rt: &HostRuntime, case: &Case) -> Result<bool> {
     let mut bytes = Vec::new(rt.alloc());
     let name = case.name;
-    answer(rt.alloc(), space, case, &mut bytes).context(format_args!("case {name}"))?;
+    answer(rt.alloc(), case, &mut bytes).context(format_args!("case {name}"))?;
     let written = str::from_utf8(&bytes)?;
     let Some(found) = first_difference(case.wanted, written) else {
         return Ok(true);
@@ -39,7 +38,6 @@ fn agrees(rt: &HostRuntime, space: &mut Workspace, case: &Case) -> Result<bool> 
 
 // Runs every case in some text.
 fn run_all(rt: &HostRuntime, text: &str) -> Result<Tally> {
-    let mut space = Workspace::new(rt.alloc())?;
     let mut tally = Tally { cases: 0, agree: 0 };
     for block in text.split(END) {
         if block.is_empty() {
@@ -51,7 +49,7 @@ fn run_all(rt: &HostRuntime, text: &str) -> Result<Tally> {
             Ok(case) => case,
             Err(fault) => return Err(anyhow!("case {number} of the file: {fault}")),
         };
-        if agrees(rt, &mut space, &case)? {
+        if agrees(rt, &case)? {
             tally.agree = tally.agree.saturating_add(1);
         }
     }

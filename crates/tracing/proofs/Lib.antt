@@ -1,4 +1,7 @@
 -- Lemmas of passes over an export.
-pub mod Puts
-pub mod Steps
 pub mod Streams
+pub mod Told
+pub mod Rows
+pub mod TraceLaws
+pub mod PrintLaws
+pub mod Taking

@@ -1,5 +1,6 @@
 -- What a writer has still to be given, of all that it is to be given.
-use Rattle.std.proofs.Common.{◌≡◌, ℕ, List, ◌++◌, Option, None, Some, refl, ap, ◌∙◌, append_assoc}
+use Rattle.std.proofs.Common.{◌≡◌, ℕ, List, [], ◌++◌, Option, None, Some, Ok, Err, Result, refl, sym, ap, ◌∙◌, append_assoc, append-nil}
+use Rattle.std.specs.Prelude.{OnOk}
 use Rattle.std.specs.Io.KnownBytes.{Appends}
 
 -- with these bytes still to come, a writer that held the first known bytes, and now the second, is given all
@@ -23,3 +24,17 @@ owes_last None b c bs all p q = tt
 owes_last (Some xs) None c bs all p q = absurd p
 owes_last (Some xs) (Some ys) None bs all p q = absurd q
 owes_last (Some xs) (Some ys) (Some zs) bs all p q = q ∙ p
+
+pub appends_both : (a b c : Option (List ℕ)) (xs ys : List ℕ) → Appends a b xs → Appends b c ys → Appends a c (xs ++ ys)
+appends_both None b c xs ys p q = tt
+appends_both (Some zs) None c xs ys p q = absurd p
+appends_both (Some zs) (Some us) None xs ys p q = absurd q
+appends_both (Some zs) (Some us) (Some vs) xs ys p q = q ∙ ap (λ l. l ++ ys) p ∙ append_assoc zs xs ys
+
+pub appends_none : (a : Option (List ℕ)) → Appends a a []
+appends_none None = tt
+appends_none (Some xs) = sym (append-nil xs)
+
+pub if_ok : {X E P Q : Type 0} (r : Result X E) → (P → Q) → OnOk r P → OnOk r Q
+if_ok (Ok x) f p = f p
+if_ok (Err e) f p = p

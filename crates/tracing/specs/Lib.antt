@@ -1,5 +1,4 @@
 -- The definitions that the contracts of passes over an export cite.
-pub mod Refusals
 pub mod Stops
 pub mod Traces
 pub mod Prints

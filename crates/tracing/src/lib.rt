@@ -6,4 +6,3 @@ pub mod stop;
 #[cfg(test)]
 mod tests;
 pub mod trace;
-pub mod workspace;

@@ -1,10 +1,11 @@
-// The limits of rows and reports, and exports written again.
+// The limits of rows and reports, exports written again, and an export that is refused.
 use crate::print::print_file;
 use crate::stop::Stop;
 use crate::trace::write_trace;
-use crate::workspace::Workspace;
 use fields::ascii::Ascii;
-use reader::refusal::Refusal;
+use import::import::Import;
+use import::refusal::Refusal;
+use layout::refusal::Refusal as LayoutRefusal;
 use report::worked::worked_examples;
 use rows::newline::Newline;
 use std::alloc::{AllocError, Global};
@@ -29,17 +30,11 @@ fn commas(heap: Global, count: u8) -> Result<Vec<u8>, AllocError> {
 
 // The trace of a file of newline rows.
 fn traced(heap: Global, layout: &[u8], file: &[u8]) -> Result<Vec<u8>, Fail> {
-    let mut space = Workspace::new(heap)?;
+    let mut import = Import::empty(heap, Ascii, Newline::new())?;
     let mut out = Vec::new(heap);
-    write_trace(
-        &mut space,
-        &mut Newline::new(),
-        &Ascii,
-        layout,
-        file,
-        &mut out,
-    )
-    .map_err(|_| Fail::new("stopped"))?;
+    write_trace(&mut import, Newline::new(), layout, file, &mut out).map_err(|_| Fail::new(
+        "stopped",
+    ))?;
     Ok(out)
 }
 
@@ -53,7 +48,7 @@ fn a_row_has_4096_bytes(rt: HostRuntime) -> Result<(), Fail> {
     let trace = traced(heap, TEXT, &file)?;
     assert_eq!(rt;
         trace.as_slice(),
-        b"row 1 0 4097 unended\nrefused 9\ntail 4097 0\n".as_slice()
+        b"row 1 0 4097 unended\nrefused 9\nfiled set-aside\ntail 4097 0\ncounts 1 0 1\n".as_slice()
     );
     Ok(())
 }
@@ -77,7 +72,7 @@ fn a_reach_is_512_lines(rt: HostRuntime) -> Result<(), Fail> {
     let trace = traced(heap, &layout, &file)?;
     assert_eq!(rt;
         trace.as_slice(),
-        b"row 1 0 342 unended\nrefused 10\ntail 342 0\n".as_slice()
+        b"row 1 0 342 unended\nrefused 10\nfiled set-aside\ntail 342 0\ncounts 1 0 1\n".as_slice()
     );
     Ok(())
 }
@@ -85,20 +80,19 @@ fn a_reach_is_512_lines(rt: HostRuntime) -> Result<(), Fail> {
 #[test]
 fn an_export_is_written_again(rt: HostRuntime) -> Result<(), Fail> {
     let heap = rt.alloc();
-    let mut space = Workspace::new(heap)?;
-    let mut rule = Newline::new();
+    let mut import = Import::empty(heap, Ascii, Newline::new())?;
     let layout = worked_examples().layout;
     let mut file = Vec::new(heap);
     file.extend_from_slice(b"17,2023-02-29,-12.50\n\nx")?;
     let mut out = Vec::new(heap);
-    let done = print_file(heap, &mut space, &mut rule, &Ascii, layout, &file, &mut out);
+    let done = print_file(heap, &mut import, Newline::new(), layout, &file, &mut out);
     assert!(rt; done.is_ok());
     assert_eq!(rt; out.as_slice(), file.as_slice());
     for _ in 0..4096 {
         file.push(b'x')?;
     }
     out.clear();
-    let done = print_file(heap, &mut space, &mut rule, &Ascii, layout, &file, &mut out);
+    let done = print_file(heap, &mut import, Newline::new(), layout, &file, &mut out);
     let stopped = matches!(
         done,
         Err(Stop::Unread {
@@ -108,5 +102,26 @@ fn an_export_is_written_again(rt: HostRuntime) -> Result<(), Fail> {
     );
     assert!(rt; stopped);
     assert_eq!(rt; out.as_slice(), b"17,2023-02-29,-12.50\n\n".as_slice());
+    Ok(())
+}
+
+#[test]
+fn an_earlier_report_stands_behind_a_refused_export(rt: HostRuntime) -> Result<(), Fail> {
+    let heap = rt.alloc();
+    let mut import = Import::empty(heap, Ascii, Newline::new())?;
+    let mut out = Vec::new(heap);
+    let done = write_trace(&mut import, Newline::new(), TEXT, b"a\nbc\n", &mut out);
+    assert!(rt; done.is_ok());
+    out.clear();
+    let done = write_trace(&mut import, Newline::new(), &[], b"x", &mut out);
+    let refused = matches!(
+        done,
+        Err(Stop::Refused(Refusal::Layout(LayoutRefusal::Size)))
+    );
+    assert!(rt; refused);
+    assert!(rt; out.is_empty());
+    let mut buffer = [0; 4];
+    assert_eq!(rt; import.print(&mut buffer), Ok(3));
+    assert_eq!(rt; buffer.as_slice(), b"bc\n\0".as_slice());
     Ok(())
 }

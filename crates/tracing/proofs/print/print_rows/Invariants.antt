@@ -1,26 +1,27 @@
 -- The frames from the next row on, and the tail, are still to be written; no row so far was not read.
-use Rattle.std.proofs.Common.{◌≡◌, ◌+◌, ◌≤◌, length}
-use Rattle.rows.specs.Cuts.{Cut, texts}
-use Rattle.rows.specs.Rules.{joined}
-use Rattle.tracing.specs.Prints.{first_unread, frames_before}
+use Rattle.std.proofs.Common.{◌≡◌, ◌≤◌, length}
+use Rattle.import.specs.Scans.{Ready}
+use Rattle.import.specs.States.{model_of}
+use Rattle.passes.specs.Walks.{walked}
+use Rattle.tracing.specs.Prints.{Printable, bytes_ahead, unread_ahead, frames_ahead}
 use Rattle.tracing.proofs.Streams.{Owes}
 use Rattle.tracing.proofs.print.print_rows.Given as goal
 
-abbrev pub invariant-loop-bytes : goal.invariant-loop-bytes
-invariant-loop-bytes g l =
-    let ahead = g.R.RowRule.ahead in
-    let means = g.R.RowRule.means in
-    let unread = first_unread (g.F.Family.means l.under.family.now) l.under.layout.now.nodes.items l.under.layout.now.constants.items in
-    let whole = λ (c : Cut). joined (means l.fn.rule) (texts c.rows) c.tail.bytes in
-    let before = frames_before (g.F.Family.means l.under.family.now) l.under.layout.now.nodes.items l.under.layout.now.constants.items (means l.fn.rule).frame in
+abbrev pub invariant-loop-why : goal.invariant-loop-why
+invariant-loop-why g l =
+    let m = model_of l.file l.import in
+    let first = model_of l.file l.fn.import in
+    let old = g.W.Write.contents l.fn.out in
+    let now = g.W.Write.contents l.out in
     record {
-      few : l.number + length (ahead l.rule l.file).rows ≤ 16777216;
-      kept : means l.rule ≡ means l.fn.rule;
-      room : length (whole (ahead l.rule l.file)) ≤ length l.buffer;
-      owes : Owes (g.W.Write.contents l.fn.out) (g.W.Write.contents l.out) (whole (ahead l.rule l.file)) (whole (ahead l.fn.rule l.file));
-      before : Owes (g.W.Write.contents l.fn.out) (g.W.Write.contents l.out) (before (ahead l.rule l.file).rows) (before (ahead l.fn.rule l.file).rows);
-      unread : unread l.number (ahead l.rule l.file).rows ≡ unread 0 (ahead l.fn.rule l.file).rows;
+      ready : Ready l.file m;
+      printable : Printable m;
+      room : length (bytes_ahead m) ≤ length l.buffer;
+      owes : Owes old now (bytes_ahead m) (bytes_ahead first);
+      before : Owes old now (frames_ahead m) (frames_ahead first);
+      unread : unread_ahead m ≡ unread_ahead first;
+      behind : walked m m.ahead.rows ≡ walked first first.ahead.rows;
     }
 
-abbrev pub decreases-loop-bytes : goal.decreases-loop-bytes
-decreases-loop-bytes g l = length (g.R.RowRule.ahead l.rule l.file).rows
+abbrev pub decreases-loop-why : goal.decreases-loop-why
+decreases-loop-why g l = length (model_of l.file l.import).ahead.rows
