@@ -11,7 +11,7 @@ last_is : (o : Option Mark) (r : RowAt) (rs : List RowAt) → closes_unended (la
 last_is o r [] = refl
 last_is o r (s ∷ rs) = last_is (Some r.mark) s rs
 
-closing : (rs : List RowAt) → closes_unended (last_after None rs) ≡ last_unended rs
+pub closing : (rs : List RowAt) → closes_unended (last_after None rs) ≡ last_unended rs
 closing [] = refl
 closing (r ∷ rs) = last_is None r rs
 

@@ -4,9 +4,16 @@ use crate::files::read_up_to;
 use cli::families::{AnyFamily, family_of};
 use cli::problems::Problem;
 use cli::rules::{AnyRule, RuleFault, rule_of};
+use either::Left;
+use import::import::Import;
+use import::refusal::Refusal;
 use layout::header::longest_file;
+use reader::refusal::Refusal as RowRefusal;
 use rows::file::LONGEST;
-use tracing::stop::{Refusal, Stop};
+use rows::newline::Newline;
+use rows::refusal::Refusal as RulesRefusal;
+use std::io;
+use tracing::stop::Stop;
 
 // The words of a command.
 #[derive(Clone, Copy)]
@@ -55,14 +62,41 @@ pub fn export_named<'a>(rt: &HostRuntime, words: Words<'a>) -> Result<Export, Fa
     })
 }
 
+// An import for exports of a family: it is empty, and cuts by newline until it takes an export with that export's rule.
+pub fn empty_import(rt: &HostRuntime, family: AnyFamily) -> io::Result<Import<AnyFamily, AnyRule>> {
+    Ok(Import::empty(rt.alloc(), family, Left(Left(Newline::new())))?)
+}
+
+// A refusal of the import in the words of what is refused: the export, its layout file, or a row.
+fn problem_of<'a>(refusal: Refusal, row: u32, words: Words<'a>) -> Option<Problem<'a>> {
+    let row = row as usize;
+    match refusal {
+        Refusal::Layout(refusal) => Some(Problem::RefusedLayout(refusal, words.layout)),
+        Refusal::FileTooLong => Some(Problem::Refused(RulesRefusal::FileTooLong, words.file)),
+        Refusal::RowTooLong => Some(Problem::Unread(row, RowRefusal::RowTooLong, words.file)),
+        Refusal::ReachTooFar => Some(Problem::Unread(row, RowRefusal::TooManyLines, words.file)),
+        // of an import with nothing open these are not said
+        Refusal::OtherLength
+        | Refusal::WrongMoment
+        | Refusal::OtherRow
+        | Refusal::RowHasFaults
+        | Refusal::BufferTooShort => None,
+    }
+}
+
+// The same as a failure of the command.
+pub fn failure_of_refusal<'a>(refusal: Refusal, row: u32, words: Words<'a>) -> Failure<'a> {
+    match problem_of(refusal, row, words) {
+        Some(problem) => problem.into(),
+        None => Failure::Other(anyhow::Error::from(refusal)),
+    }
+}
+
 // Why a pass over the export ended early.
 pub fn failure_of<'a>(stop: Stop, words: Words<'a>) -> Failure<'a> {
     match stop {
-        Stop::Refused(Refusal::File(refusal)) => Problem::Refused(refusal, words.file).into(),
-        Stop::Refused(Refusal::Layout(refusal)) => {
-            Problem::RefusedLayout(refusal, words.layout).into()
-        }
-        Stop::Unread { row, refusal } => Problem::Unread(row, refusal, words.file).into(),
+        Stop::Refused(refusal) => failure_of_refusal(refusal, 0, words),
+        Stop::Unread { row, refusal } => failure_of_refusal(refusal, row, words),
         Stop::Output(error) => Failure::from(error),
     }
 }

@@ -1,19 +1,23 @@
 // The program: it reads its words, does what they ask from start to finish, and says what it did.
 #![tactic(auto)]
 
+mod explain_command;
 mod export;
 mod failure;
 mod field_command;
 mod files;
 mod layout_command;
+mod match_command;
 mod print_command;
 mod rows_command;
 mod trace_command;
 
+use crate::explain_command::explain_export;
 use crate::export::Words;
 use crate::failure::Failure;
 use crate::field_command::read_field;
 use crate::layout_command::print_layout;
+use crate::match_command::match_exports;
 use crate::print_command::print_export;
 use crate::rows_command::list_rows;
 use crate::trace_command::trace_export;
@@ -24,11 +28,13 @@ use std::process::ExitCode;
 // How the program is used.
 const HELP: &str = "neskvaru cuts a bank's export into rows and tells, row by row, what it found.
 
-  neskvaru rows RULE FILE                  each row with its place, length and mark, the tail, and a summary
-  neskvaru field FAMILY KIND P TEXT        what reading TEXT as a field of that kind gives, or why it cannot be read
-  neskvaru layout FAMILY LAYOUT            the tree of a layout file, one node a line, or why it is refused
-  neskvaru trace RULE FAMILY LAYOUT FILE   every row read under a layout file: its report, a record a line, and the tail
-  neskvaru print RULE FAMILY LAYOUT FILE   the file again, written from the reports of its rows alone
+  neskvaru explain RULE FAMILY LAYOUT FILE           why rows are set aside, and where; how many were kept; the tail
+  neskvaru match RULE FAMILY LAYOUT FIRST RESENT     whether a resent file is the first one, or which row differs first, and how
+  neskvaru rows RULE FILE                            each row with its place, length and mark, the tail, and a summary
+  neskvaru trace RULE FAMILY LAYOUT FILE             every row with its report, a record a line; the tail, and the counts
+  neskvaru print RULE FAMILY LAYOUT FILE             the file again, written from the reports of its rows alone
+  neskvaru layout FAMILY LAYOUT                      the tree of a layout file, one node a line, or why it is refused
+  neskvaru field FAMILY KIND P TEXT                  what reading TEXT as a field of that kind gives, or why it cannot be read
 
 RULE is one of
   newline                  byte 0A ends a row; a closing row without it is a row all the same
@@ -40,7 +46,10 @@ FAMILY is one of
   binary                   kind 1 unsigned and 2 signed number of P bytes (1 to 4), 3 P bytes (1 to 255)
   pair:FAMILY:FAMILY       kinds 0 to 31 are the first family's, 32 to 63 the second's less 32
 
-A file of rows has at most 16777216 bytes. A refusal is told on standard error, with status 1.
+LAYOUT is a layout file, which says what a row is made of; FILE, FIRST and RESENT are exports of at most 16777216 bytes.
+Rows and nodes count from 1, and bytes from 0: a fault 'at 3' is at the fourth byte of its row.
+What stops a command is told on standard error, with status 1. A match that finds a difference tells it on standard output, also with status 1.
+For example: neskvaru explain newline ascii samples/invoice.layout samples/invoices.csv
 ";
 
 // The words that name an export.
@@ -66,36 +75,59 @@ fn misused(command: &str) -> Problem<'_> {
         "layout" => Problem::WrongWords("layout FAMILY LAYOUT"),
         "trace" => Problem::WrongWords("trace RULE FAMILY LAYOUT FILE"),
         "print" => Problem::WrongWords("print RULE FAMILY LAYOUT FILE"),
+        "explain" => Problem::WrongWords("explain RULE FAMILY LAYOUT FILE"),
+        "match" => Problem::WrongWords("match RULE FAMILY LAYOUT FIRST RESENT"),
         other => Problem::NoCommand(other),
     }
 }
 
-// Does what the words ask; the first is the program's own name.
-fn run<'a>(rt: &HostRuntime, words: &'a [String]) -> Result<(), Failure<'a>> {
-    match words {
-        [] | [_] => rt.print(HELP)?,
-        [_, command, rest @ ..] => match (command.as_str(), rest) {
-            ("rows", [rule, file]) => list_rows(rt, rule.as_str(), file.as_str())?,
-            ("field", [family, kind, p, text]) => read_field(
+// Does what the words of a command ask.
+fn run_command<'a>(
+    rt: &HostRuntime,
+    command: &'a str,
+    rest: &'a [String],
+) -> Result<ExitCode, Failure<'a>> {
+    match (command, rest) {
+        ("rows", [rule, file]) => list_rows(rt, rule.as_str(), file.as_str())?,
+        ("field", [family, kind, p, text]) => read_field(
+            rt,
+            family.as_str(),
+            kind.as_str(),
+            p.as_str(),
+            text.as_str(),
+        )?,
+        ("layout", [family, file]) => print_layout(rt, family.as_str(), file.as_str())?,
+        ("trace", [rule, family, layout, file]) => trace_export(
+            rt,
+            export_words(rule, family, layout, file),
+        )?,
+        ("print", [rule, family, layout, file]) => print_export(
+            rt,
+            export_words(rule, family, layout, file),
+        )?,
+        ("explain", [rule, family, layout, file]) => explain_export(
+            rt,
+            export_words(rule, family, layout, file),
+        )?,
+        ("match", [rule, family, layout, first, resent]) => {
+            return match_exports(
                 rt,
-                family.as_str(),
-                kind.as_str(),
-                p.as_str(),
-                text.as_str(),
-            )?,
-            ("layout", [family, file]) => print_layout(rt, family.as_str(), file.as_str())?,
-            ("trace", [rule, family, layout, file]) => trace_export(
-                rt,
-                export_words(rule, family, layout, file),
-            )?,
-            ("print", [rule, family, layout, file]) => print_export(
-                rt,
-                export_words(rule, family, layout, file),
-            )?,
-            (command, _) => return Err(misused(command).into()),
-        },
+                export_words(rule, family, layout, first),
+                resent.as_str(),
+            );
+        }
+        (command, _) => return Err(misused(command).into()),
     }
-    Ok(())
+    Ok(ExitCode::SUCCESS)
+}
+
+// Does what the words ask, and answers the status; the first is the program's own name.
+fn run<'a>(rt: &HostRuntime, words: &'a [String]) -> Result<ExitCode, Failure<'a>> {
+    let [_, command, rest @ ..] = words else {
+        rt.print(HELP)?;
+        return Ok(ExitCode::SUCCESS);
+    };
+    run_command(rt, command.as_str(), rest)
 }
 
 // The words that the program was called with.
@@ -111,7 +143,7 @@ fn main(rt: HostRuntime) -> ExitCode {
         Err(error) => Err(Failure::BadWords(error)),
     };
     match outcome {
-        Ok(()) => ExitCode::SUCCESS,
+        Ok(status) => status,
         Err(failure) => {
             if let Err(error) = failure.tell(&rt) {
                 // where standard error cannot be written to, there is nobody left to tell

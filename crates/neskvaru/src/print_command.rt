@@ -1,21 +1,18 @@
 // The command `print`: writes an export again, from the reports of its rows alone.
-use crate::export::{Words, export_named, failure_of};
+use crate::export::{Words, empty_import, export_named, failure_of};
 use crate::failure::Failure;
-use std::io;
 use std::io::{BufWriter, Write};
 use tracing::print::print_file;
-use tracing::workspace::Workspace;
 
 // Writes every row's frame and then the tail to standard output, up to the first row that is not read.
 pub fn print_export<'a>(rt: &HostRuntime, words: Words<'a>) -> Result<(), Failure<'a>> {
-    let mut export = export_named(rt, words)?;
-    let mut space = Workspace::new(rt.alloc()).map_err(io::Error::from)?;
+    let export = export_named(rt, words)?;
+    let mut import = empty_import(rt, export.family)?;
     let mut out = BufWriter::new(rt.alloc(), rt.stdout())?;
     let done = print_file(
         rt.alloc(),
-        &mut space,
-        &mut export.rule,
-        &export.family,
+        &mut import,
+        export.rule,
         &export.layout,
         &export.file,
         &mut out,

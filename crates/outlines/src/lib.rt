@@ -5,4 +5,4 @@ pub mod line;
 #[cfg(test)]
 mod tests;
 pub mod tree;
-mod words;
+pub mod words;

@@ -23,22 +23,30 @@ impl fmt::Display for NodeLine<'_> {
     fn fmt<W: fmt::Write>(&self, f: &mut fmt::Formatter<W>) -> fmt::Result {
         let indent = Spaces(2 * usize::from(self.entry.depth).saturating_sub(1));
         let number = self.entry.number;
-        let what = ShapeWords(*self);
+        let what = ShapeWords {
+            shape: self.shape,
+            family: self.family,
+            constants: self.constants,
+        };
         write!(f, "{indent}node {number}: {what}")
     }
 }
 
-// What the node of a line is.
+// What a node is, in words.
 #[derive(Clone, Copy)]
-struct ShapeWords<'t>(NodeLine<'t>);
+pub struct ShapeWords<'t> {
+    pub shape: Shape,
+    pub family: FamilyWords,
+    pub constants: &'t [i64],
+}
 
 impl fmt::Display for ShapeWords<'_> {
-    ghost output = { λ words. Some (shape_words words.0.family words.0.constants.now words.0.shape) };
+    ghost output = { λ words. Some (shape_words words.family words.constants.now words.shape) };
 
     fn fmt<W: fmt::Write>(&self, f: &mut fmt::Formatter<W>) -> fmt::Result {
-        match self.0.shape {
+        match self.shape {
             Shape::Field { kind, column } => {
-                let name = self.0.family.kind_name(kind.code);
+                let name = self.family.kind_name(kind.code);
                 let (code, parameter) = (kind.code, kind.parameter);
                 let column = ColumnWords(column);
                 write!(f, "{name}, kind {code}, parameter {parameter}, {column}")
@@ -58,7 +66,7 @@ impl fmt::Display for ShapeWords<'_> {
                 let relation = relation_words(relation);
                 let right = SideWords {
                     side: right,
-                    constants: self.0.constants,
+                    constants: self.constants,
                 };
                 write!(f, "check, column {left} {relation} {right}")
             }

@@ -22,7 +22,7 @@ impl fmt::Display for Spaces {
 
 // A byte as two hexadecimal digits.
 #[derive(Clone, Copy)]
-pub(crate) struct Hex(pub u8);
+pub struct Hex(pub u8);
 
 impl fmt::Display for Hex {
     ghost output = { λ byte. Some (hex byte.0) };

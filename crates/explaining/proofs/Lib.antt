@@ -1,0 +1,4 @@
+-- Lemmas of explanations.
+pub mod Steps
+pub mod Standing
+pub mod Walks
