@@ -1,6 +1,7 @@
 // A row as it stands in its file.
 ghost use Rattle.std.specs.Prelude.{◌≡◌};
 ghost use Rattle.cli.specs.declared.texts.ListingLine.TheVariants.{Row as listed};
+
 use cli::texts::ListingLine;
 use rows::piece::Mark;
 

@@ -76,12 +76,12 @@ fn choices_checks_and_odd_bytes_are_told(rt: HostRuntime) -> Result<(), Fail> {
             b"row 1: start 0, length 66, unended: 2 faults, set aside
   check, column 1 is less than constant 0, which is 5 (node 3), at 1: this does not hold
   choice (node 4), at 1: no branch fits
-  scrap, at 1, 65 bytes: '\\x5C\\xFFxxx'"
+  scrap, at 1, 65 bytes: '\\x5C\\xFFxxx"
         )
     );
     assert!(rt;
         text.ends_with(
-            b"xxx and 1 byte more
+            b"xxx' and 1 byte more
 1 row opened: 0 kept, 1 set aside
 tail: start 66, length 0
 notice: the closing row, row 1, has no newline at its end; it is a row like the others and is counted
