@@ -5,4 +5,6 @@ pub mod WholeRule
 pub mod AmountRule
 pub mod DateRule
 pub mod BinaryRule
-pub mod CursorLaws
+pub mod Writing
+pub mod AmountWriting
+pub mod RunLaws

@@ -11,9 +11,8 @@ use crate::cause::{Cause, Reading, Sort};
 use crate::cursor::Cursor;
 use crate::date::{read_date, spell_date};
 use crate::family::{Family, Kind, TooShort};
-use crate::spelling::{Spelling, write};
 use crate::text::read_text;
-use crate::whole::{read_whole, spell_whole};
+use crate::whole::{read_whole, spell_whole, whole_len};
 
 // Fields as a person writes them.
 #[derive(Clone, Copy)]
@@ -45,22 +44,6 @@ impl AsciiKind {
     }
 }
 
-impl Ascii {
-    // The bytes of a number.
-    fn spelling(kind: Kind, number: i64) -> Spelling
-        ensures { result.items ≡ (ascii_means kind.code kind.parameter).spells number }
-    {
-        let mut text = Spelling::new();
-        match AsciiKind::of(kind) {
-            Some(AsciiKind::Whole) => spell_whole(number, &mut text),
-            Some(AsciiKind::Amount(decimals)) => decimals.spell(number, &mut text),
-            Some(AsciiKind::Date) => spell_date(number, &mut text),
-            Some(AsciiKind::Text(_)) | None => {}
-        }
-        text
-    }
-}
-
 impl Family for Ascii {
     ghost means = { λ _ k p. ascii_means k p };
 
@@ -77,6 +60,8 @@ impl Family for Ascii {
         }
     }
 
+    // (This and the readings under it are put where they are called, in the reader's loop: a call would hand each answer on through memory.)
+    #[inline(always)]
     fn read(&self, kind: Kind, cursor: &mut Cursor) -> Reading
         ensures answer { result ≡ (ascii_means kind.code kind.parameter).reads (unread cursor.old) }
         ensures place { Moved result cursor.old cursor.new }
@@ -90,16 +75,25 @@ impl Family for Ascii {
         }
     }
 
-    // (This and the next stand alike in `Binary`: each is one call of what is shared, and a trait for both would be longer.)
     fn spelled_length(&self, kind: Kind, number: i64) -> usize
         ensures { result ≡ length ((ascii_means kind.code kind.parameter).spells number) }
     {
-        Ascii::spelling(kind, number).len()
+        match AsciiKind::of(kind) {
+            Some(AsciiKind::Whole) => whole_len(number),
+            Some(AsciiKind::Amount(decimals)) => decimals.spelled_len(number),
+            Some(AsciiKind::Date) => 10,
+            Some(AsciiKind::Text(_)) | None => 0,
+        }
     }
 
     fn spell(&self, kind: Kind, number: i64, out: &mut [u8]) -> Result<usize, TooShort>
         ensures { (result, out.new) ≡ written ((ascii_means kind.code kind.parameter).spells number) out.old }
     {
-        write(&Ascii::spelling(kind, number), out)
+        match AsciiKind::of(kind) {
+            Some(AsciiKind::Whole) => spell_whole(number, out),
+            Some(AsciiKind::Amount(decimals)) => decimals.spell(number, out),
+            Some(AsciiKind::Date) => spell_date(number, out),
+            Some(AsciiKind::Text(_)) | None => Ok(0),
+        }
     }
 }

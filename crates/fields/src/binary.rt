@@ -11,7 +11,6 @@ use crate::cause::{Cause, Reading, Sort};
 use crate::cursor::Cursor;
 use crate::digits::{number, value};
 use crate::family::{Family, Kind, TooShort};
-use crate::spelling::{Spelling, write};
 use crate::width::Width;
 
 // Fields as a machine stores them.
@@ -65,19 +64,6 @@ impl BinaryKind {
     }
 }
 
-impl Binary {
-    // The bytes of a number.
-    fn spelling(kind: Kind, number: i64) -> Spelling
-        ensures { result.items ≡ (binary_means kind.code kind.parameter).spells number }
-    {
-        match BinaryKind::of(kind) {
-            Some(BinaryKind::Unsigned(width)) => width.octets(number.unsigned_abs()),
-            Some(BinaryKind::Signed(width)) => width.octets(width.bits(number)),
-            Some(BinaryKind::Stored(_)) | None => Spelling::new(),
-        }
-    }
-}
-
 impl Family for Binary {
     ghost means = { λ _ k p. binary_means k p };
 
@@ -103,16 +89,23 @@ impl Family for Binary {
         Ok((field.len(), known.number(field)))
     }
 
-    // (This and the next stand alike in `Ascii`: each is one call of what is shared, and a trait for both would be longer.)
     fn spelled_length(&self, kind: Kind, number: i64) -> usize
         ensures { result ≡ length ((binary_means kind.code kind.parameter).spells number) }
     {
-        Binary::spelling(kind, number).len()
+        match BinaryKind::of(kind) {
+            Some(BinaryKind::Unsigned(width)) => usize::from(width.bytes),
+            Some(BinaryKind::Signed(width)) => usize::from(width.bytes),
+            Some(BinaryKind::Stored(_)) | None => 0,
+        }
     }
 
     fn spell(&self, kind: Kind, number: i64, out: &mut [u8]) -> Result<usize, TooShort>
         ensures { (result, out.new) ≡ written ((binary_means kind.code kind.parameter).spells number) out.old }
     {
-        write(&Binary::spelling(kind, number), out)
+        match BinaryKind::of(kind) {
+            Some(BinaryKind::Unsigned(width)) => width.spell(number.unsigned_abs(), out),
+            Some(BinaryKind::Signed(width)) => width.spell(width.bits(number), out),
+            Some(BinaryKind::Stored(_)) | None => Ok(0),
+        }
     }
 }

@@ -1,5 +1,5 @@
 // Numbers written with places in a base: runs of decimal digits, the number that places write, and writing them.
-ghost use Rattle.std.specs.Prelude.{◌≡◌, ◌+◌, ◌^◌, ◌<◌, ◌≤◌, length, pos, nat_le};
+ghost use Rattle.std.specs.Prelude.{◌≡◌, ◌+◌, ◌^◌, ◌<◌, ◌≤◌, length, take, pos, nat_le};
 ghost use Rattle.fields.specs.Digits.{run as run_of, value as value_of, AreDigits};
 ghost use Rattle.fields.specs.PlaceValues.{EachFrom};
 ghost use Rattle.fields.specs.Places.{number_from, places_from};
@@ -20,6 +20,25 @@ pub(crate) fn starts_with_digits(bytes: &[u8], count: usize) -> bool
         return false;
     }
     run(&bytes[..count]) == count
+}
+
+// The run of decimal digits at the beginning: how long it is and, up to twelve digits, the number that they write.
+// (One pass: the number of a longer run is of no use, and may go over its end.)
+#[inline(always)]
+pub(crate) fn leading(bytes: &[u8]) -> (usize, u64)
+    ensures len { result.0 ≡ run_of bytes.now }
+    ensures is { result.0 ≤ 12 → result.1 ≡ value_of (take result.0 bytes.now) }
+{
+    let mut len = 0;
+    let mut n: u64 = 0;
+    for byte in bytes {
+        if !byte.is_ascii_digit() {
+            break;
+        }
+        n = n.wrapping_mul(10).wrapping_add(u64::from(*byte - b'0'));
+        len += 1;
+    }
+    (len, n)
 }
 
 // The number that bytes write with places in a base; `FIRST` is the byte of place 0.

@@ -1,60 +1,70 @@
-// The bytes of a number, made before they are written: they lie on the stack.
-ghost use Rattle.std.specs.Prelude.{◌≡◌, ◌+◌, ◌<◌, ◌≤◌, ◌++◌, length, decimal};
-ghost use Rattle.fields.specs.Buffers.{written};
+// Writing a number's spelling into a buffer, part by part, each at its place.
+ghost use Rattle.std.specs.Prelude.{◌≡◌, ◌+◌, ◌<◌, ◌≤◌, [], ◌∷◌, length, decimal};
+ghost use Rattle.fields.specs.Buffers.{over};
 ghost use Rattle.fields.specs.Places.{places_from};
 
 use crate::digits::fill;
-use crate::family::TooShort;
-use arrayvec::ArrayVec;
-use itoa::Buffer;
+use itoa::write_digits;
 
-// What a number is spelled with: no kind takes more than a sign, twenty digits, a point and four digits.
-pub(crate) type Spelling = ArrayVec<u8, 26>;
-
-// Adds bytes, for which there is room.
-pub(crate) fn add(text: &mut Spelling, bytes: &[u8])
-    requires { length text.old.items + length bytes.now ≤ 26 }
-    ensures { text.new.items ≡ text.old.items ++ bytes.now }
+// How many decimal digits a number has. (Told by comparing alone: a loop over the powers of ten takes twice as long.)
+#[inline]
+pub(crate) fn decimal_len(n: u64) -> usize
+    ensures is { result ≡ length (decimal n) }
+    ensures few { result ≤ 20 }
 {
-    // there is room; try_extend_from_slice would answer whether there was
-    for byte in bytes {
-        text.push(*byte);
+    match n {
+        0..=9 => 1,
+        10..=99 => 2,
+        100..=999 => 3,
+        1_000..=9_999 => 4,
+        10_000..=99_999 => 5,
+        100_000..=999_999 => 6,
+        1_000_000..=9_999_999 => 7,
+        10_000_000..=99_999_999 => 8,
+        100_000_000..=999_999_999 => 9,
+        1_000_000_000..=9_999_999_999 => 10,
+        10_000_000_000..=99_999_999_999 => 11,
+        100_000_000_000..=999_999_999_999 => 12,
+        1_000_000_000_000..=9_999_999_999_999 => 13,
+        10_000_000_000_000..=99_999_999_999_999 => 14,
+        100_000_000_000_000..=999_999_999_999_999 => 15,
+        1_000_000_000_000_000..=9_999_999_999_999_999 => 16,
+        10_000_000_000_000_000..=99_999_999_999_999_999 => 17,
+        100_000_000_000_000_000..=999_999_999_999_999_999 => 18,
+        1_000_000_000_000_000_000..=9_999_999_999_999_999_999 => 19,
+        _ => 20,
     }
 }
 
-// Adds the digits of a number.
-pub(crate) fn add_decimal(text: &mut Spelling, n: u64)
-    requires { length text.old.items ≤ 1 }
-    ensures after { text.new.items ≡ text.old.items ++ decimal n }
-    ensures room { length text.new.items ≤ 21 }
+// Writes one byte at a place.
+#[inline]
+pub(crate) fn put_byte(b: u8, at: usize, out: &mut [u8])
+    requires { at < length out.old }
+    ensures { out.new ≡ over at (b ∷ []) out.old }
 {
-    add(text, Buffer::new().format(n).as_bytes());
+    out[at] = b;
 }
 
-// Adds the last places of a number in a base; `FIRST` is the byte of place 0.
-pub(crate) fn add_places<const BASE: u64, const FIRST: u8>(
-    text: &mut Spelling,
+// Writes the last places of a number in a base at a place; `FIRST` is the byte of place 0.
+#[inline]
+pub(crate) fn put_places<const BASE: u64, const FIRST: u8>(
     n: u64,
     width: usize,
+    at: usize,
+    out: &mut [u8],
 )
     requires base { (0 < BASE) × (FIRST + BASE ≤ 256) }
-    requires few { width ≤ 4 }
-    requires room { length text.old.items + width ≤ 26 }
-    ensures { text.new.items ≡ text.old.items ++ places_from BASE FIRST width n }
+    requires room { at + width ≤ length out.old }
+    ensures { out.new ≡ over at (places_from BASE FIRST width n) out.old }
 {
-    let mut bytes = [0; 4];
-    fill::<BASE, FIRST>(n, &mut bytes[..width]);
-    add(text, &bytes[..width]);
+    fill::<BASE, FIRST>(n, &mut out[at..at + width]);
 }
 
-// Writes bytes at the beginning of a buffer, and says how many; a buffer without room is left as it is.
-pub(crate) fn write(bytes: &[u8], out: &mut [u8]) -> Result<usize, TooShort>
-    ensures { (result, out.new) ≡ written bytes.now out.old }
+// Writes the digits of a number at a place; `end` is the place behind them.
+#[inline]
+pub(crate) fn put_decimal(n: u64, at: usize, end: usize, out: &mut [u8])
+    requires { (at + length (decimal n) ≡ end) × (end ≤ length out.old) }
+    ensures { out.new ≡ over at (decimal n) out.old }
 {
-    let len = bytes.len();
-    if out.len() < len {
-        return Err(TooShort);
-    }
-    out[..len].copy_from_slice(bytes);
-    Ok(len)
+    write_digits(n, out, end);
 }

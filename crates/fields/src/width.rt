@@ -1,8 +1,10 @@
 // Numbers of one to four bytes, most significant first.
 ghost use Rattle.std.specs.Prelude.{◌≡◌, ◌^◌, ◌<◌, ◌≤◌};
+ghost use Rattle.fields.specs.Buffers.{written};
 ghost use Rattle.fields.specs.Octets.{octets, twos, of_twos};
 
-use crate::spelling::{Spelling, add_places};
+use crate::family::TooShort;
+use crate::spelling::put_places;
 
 // How many bytes a number takes.
 #[derive(Clone, Copy)]
@@ -41,12 +43,15 @@ impl Width {
         self.full().saturating_sub(number.unsigned_abs())
     }
 
-    // The last so many bytes of a number.
-    pub(crate) fn octets(self, n: u64) -> Spelling
-        ensures { result.items ≡ octets self.bytes n }
+    // Writes the last so many bytes of a number.
+    pub(crate) fn spell(self, n: u64, out: &mut [u8]) -> Result<usize, TooShort>
+        ensures { (result, out.new) ≡ written (octets self.bytes n) out.old }
     {
-        let mut text = Spelling::new();
-        add_places::<256, 0>(&mut text, n, usize::from(self.bytes));
-        text
+        let width = usize::from(self.bytes);
+        if out.len() < width {
+            return Err(TooShort);
+        }
+        put_places::<256, 0>(n, width, 0, out);
+        Ok(width)
     }
 }
