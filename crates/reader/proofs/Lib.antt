@@ -13,3 +13,5 @@ pub mod Stacks
 pub mod Going
 pub mod Begun
 pub mod Faults
+pub mod PlainLines
+pub mod Straight

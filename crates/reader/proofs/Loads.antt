@@ -26,6 +26,14 @@ abbrev mutual
   sizes end = 0
   sizes (q then qs) = size q + sizes qs
 
+pub some : (q : Part) → 1 ≤ size q
+some (field i kind parameter column) = omega arith
+some (mark i byte) = omega arith
+some (check i relation left right) = omega arith
+some (sequence i parts) = omega arith
+some (choice i parts) = omega arith
+some (optional i parts) = omega arith
+
 abbrev pub still : List Pending → ℕ
 still [] = 0
 still (f ∷ fs) = 2 * sizes f.rest + 1 + still fs
@@ -90,14 +98,6 @@ module _ (means : ℕ → ℕ → Meaning) (nodes : List Node) (row : List ℕ) 
 
     passed_less : (t : Told) (q : Part) (qs : Parts) → f.rest ≡ (q then qs) → load (passed means nodes row t f fs ls p r q qs) < before
     passed_less t q qs e = omega (arith, low t, ap sizes e, some q)
-      where
-        some : (q : Part) → 1 ≤ size q
-        some (field i kind parameter column) = omega arith
-        some (mark i byte) = omega arith
-        some (check i relation left right) = omega arith
-        some (sequence i parts) = omega arith
-        some (choice i parts) = omega arith
-        some (optional i parts) = omega arith
 
     hunted_less : (q : Part) (qs : Parts) (o : Option ℕ) → f.rest ≡ (q then qs) → load (hunted means nodes row f fs ls p r q qs o) < before + 2
     hunted_less q qs None e = omega (arith, passed_less Seek q qs e)

@@ -21,45 +21,16 @@ use Rattle.reader.specs.declared.open.Way.{Way}
 use Rattle.reader.specs.declared.open.Way.TheVariants.{Sequence, Tried, Choice, Optional}
 use Rattle.reader.specs.declared.open.Told.{Told}
 use Rattle.reader.specs.declared.open.Told.TheVariants.{Begin, Clean, Fault, Seek, Skip}
-use Rattle.reader.specs.Turns.{Pending, State, raised, leaf_begun, check_begun, completed, shut, undone, sought, begin, next_tried, next_branch, next_child, mended, hunted, next_sought, next_skipped, turn_by}
+use Rattle.reader.specs.Turns.{Pending, State, raised, leaf_begun, check_begun, completed, shut, sought, begin, next_tried, next_branch, next_child, mended, hunted, next_sought, next_skipped, turn_by}
 use Rattle.reader.proofs.Lists.{again, all, front, header, past, append_assoc, take_less}
 use Rattle.reader.proofs.Beyond.{Beyond, branches_beyond}
-use Rattle.reader.specs.Models.{broke}
+use Rattle.reader.specs.Resuming.{Mid, mid, tells, tried_end, option_end, choice_end, open_end}
+use Rattle.reader.specs.Resuming as resuming
 use Rattle.reader.specs.Nesting.{InTrial, Gives, Chain}
 use Rattle.reader.proofs.Chains.{outer}
 
--- lines, a place, what the open node around is told, and the reach so far
-pub record Mid : Type 0 where
-  pub lines : List Line
-  pub place : ℕ
-  pub told : Told
-  pub reach : ℕ
-
-abbrev pub mid : List Line → ℕ → Told → ℕ → Mid
-mid ls p t r = record { lines = ls; place = p; told = t; reach = r }
-
-abbrev pub tells : Bool → Told
-tells true = Fault
-tells false = Clean
-
 abbrev pending : Way → ℕ → ℕ → ℕ → Part → Parts → ℕ → Pending
 pending w i a b q qs n = record { way = w; node = i; at = a; start = b; last = q; rest = qs; branch = n }
-
--- how the node ends, by what became of its parts
-abbrev pub tried_end : Pending → List Line → ℕ → ℕ → Trial → Mid
-tried_end f ls p r (clean ms q x) = mid (completed f (ls ++ ms) q Good (pos 0)) q Clean (max r x)
-tried_end f ls p r (given_up x) = mid ls p Fault (max r x)
-
-abbrev pub option_end : Pending → List Line → ℕ → Trial → Mid
-option_end f ls r (clean ms q x) = mid (completed f (ls ++ ms) q Good (pos 1)) q Clean (max r x)
-option_end f ls r (given_up x) = mid (undone f ls Absent (pos 0)) f.start Clean (max r x)
-
-abbrev pub choice_end : Pending → List Line → ℕ → Trial → Mid
-choice_end f ls r (clean ms q x) = mid (take f.at ls ++ ms) q Clean (max r x)
-choice_end f ls r (given_up x) = mid (undone f ls SyntaxFault (pos 5)) f.start Fault (max r x)
-
-abbrev pub open_end : Pending → List Line → ℕ → OpenReading → Mid
-open_end f ls r d = mid (shut f (ls ++ d.lines) d.place) d.place (tells d.broke) (max r d.reach)
 
 module _ (means : ℕ → ℕ → Meaning) (nodes : List Node) (row : List ℕ) where
   abbrev one : Part → List Line → ℕ → Trial
@@ -77,50 +48,17 @@ module _ (means : ℕ → ℕ → Meaning) (nodes : List Node) (row : List ℕ) 
   abbrev seek : Parts → Rest
   seek qs ls p = seeking means nodes row qs ls p
 
-  -- what an open sequence still reads
-  abbrev open_by : Told → Pending → List Line → ℕ → OpenReading
-  open_by Begin f ls p = go f.rest ls p
-  open_by Clean f ls p = go f.rest ls p
-  open_by Fault f ls p = broken row (byte_of f.last) f.last f.rest (go f.rest) (seek f.rest) ls p
-  open_by Seek f ls p = seek f.rest ls p
-  open_by Skip f ls p = wrote ls (skips f.rest p) p true
-
-  abbrev tried_by : Told → Pending → List Line → ℕ → ℕ → Mid
-  tried_by Begin f ls p r = tried_end f ls p r (several f.rest ls p)
-  tried_by Clean f ls p r = tried_end f ls p r (several f.rest ls p)
-  tried_by Fault f ls p r = mid ls p Fault r
-  tried_by Seek f ls p r = mid ls p Fault r
-  tried_by Skip f ls p r = mid ls p Fault r
-
   abbrev chooses : Pending → List Line → ℕ → Mid
-  chooses f ls r = choice_end f ls r (any f.rest f.node (f.branch + 1) ls f.start)
+  chooses f ls r = resuming.chooses means nodes row f ls r
 
-  abbrev choice_by : Told → Pending → List Line → ℕ → ℕ → Mid
-  choice_by Begin f ls p r = chooses f (take (f.at + 1) ls) r
-  choice_by Clean f ls p r = mid (completed f ls p Good (pos f.branch)) p Clean r
-  choice_by Fault f ls p r = chooses f (take (f.at + 1) ls) r
-  choice_by Seek f ls p r = chooses f (take (f.at + 1) ls) r
-  choice_by Skip f ls p r = chooses f (take (f.at + 1) ls) r
+  abbrev finish_by : Way → Told → Pending → List Line → ℕ → ℕ → Mid
+  finish_by w t f ls p r = resuming.finish_by means nodes row w t f ls p r
 
-  abbrev option_by : Told → Pending → List Line → ℕ → ℕ → Mid
-  option_by Begin f ls p r = option_end f ls r (several f.rest ls p)
-  option_by Clean f ls p r = option_end f ls r (several f.rest ls p)
-  option_by Fault f ls p r = mid (undone f ls Absent (pos 0)) f.start Clean r
-  option_by Seek f ls p r = mid (undone f ls Absent (pos 0)) f.start Clean r
-  option_by Skip f ls p r = mid (undone f ls Absent (pos 0)) f.start Clean r
+  abbrev resume : List Pending → List Line → ℕ → Told → ℕ → OpenReading
+  resume fs ls p t r = resuming.resume means nodes row fs ls p t r
 
-  abbrev pub finish_by : Way → Told → Pending → List Line → ℕ → ℕ → Mid
-  finish_by Sequence t f ls p r = open_end f ls r (open_by t f ls p)
-  finish_by Tried t f ls p r = tried_by t f ls p r
-  finish_by Choice t f ls p r = choice_by t f ls p r
-  finish_by Optional t f ls p r = option_by t f ls p r
-
-  abbrev pub resume : List Pending → List Line → ℕ → Told → ℕ → OpenReading
-  resume [] ls p t r = gave ls p (broke t) r
-  resume (f ∷ fs) ls p t r = let m = finish_by f.way t f ls p r in resume fs m.lines m.place m.told m.reach
-
-  abbrev pub resumed : State → OpenReading
-  resumed s = resume s.stack s.lines s.place s.told s.reach
+  abbrev resumed : State → OpenReading
+  resumed s = resuming.resumed means nodes row s
 
   abbrev resume_mid : List Pending → Mid → OpenReading
   resume_mid fs m = resume fs m.lines m.place m.told m.reach

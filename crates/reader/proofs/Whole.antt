@@ -13,21 +13,14 @@ use Rattle.reader.specs.declared.open.Way.{Way}
 use Rattle.reader.specs.declared.open.Way.TheVariants.{Sequence, Tried, Choice, Optional}
 use Rattle.reader.specs.declared.open.Told.{Told}
 use Rattle.reader.specs.declared.open.Told.TheVariants.{Begin, Clean, Fault, Seek, Skip}
-use Rattle.reader.specs.Turns.{Pending, State, state, begin, turn_by}
+use Rattle.reader.specs.Turns.{Pending, state, begin, turn_by}
 use Rattle.reader.specs.Nesting.{Good}
 use Rattle.reader.specs.Models.{broke}
-use Rattle.reader.proofs.Resumed.{tells, tried_end, option_end, choice_end, finish_by, resume, resumed, cont_open, begun_open, turn_is}
+use Rattle.reader.specs.Resuming.{tells, tried_end, option_end, choice_end, finish_by, resume, Going}
+use Rattle.reader.proofs.Resumed.{cont_open, begun_open, turn_is}
 use Rattle.reader.proofs.Keeps.{begun_good, turn_good}
 
 module _ (means : ℕ → ℕ → Meaning) (nodes : List Node) (constants : List ℤ) (row : List ℕ) where
-  -- the reading of the root, from the row's beginning
-  abbrev pub root_read : OpenReading
-  root_read = open_reading means nodes row (tree_of nodes constants) [] 0
-
-  pub record Going (s : State) : Type 0 where
-    pub good : Good row s.stack s.lines s.place s.reach
-    pub same : resumed means nodes row s ≡ root_read
-
   -- the reach never falls
   tried_reach : (f : Pending) (ls : List Line) (p r : ℕ) (t : Trial) → r ≤ (tried_end f ls p r t).reach
   tried_reach f ls p r (clean ms q x) = omega arith
@@ -83,14 +76,14 @@ module _ (means : ℕ → ℕ → Meaning) (nodes : List Node) (constants : List
     none_good = record { chain = tt; began = tt; levels = tt; low = omega arith; within = omega arith; bytes = bytes }
 
     -- the root is begun
-    pub begins : height (tree_of nodes constants) ≤ 16 → Going (begin means nodes row false (tree_of nodes constants) [] [] 0 0)
+    pub begins : height (tree_of nodes constants) ≤ 16 → Going means nodes row constants (begin means nodes row false (tree_of nodes constants) [] [] 0 0)
     begins h = record {
       good = begun_good means nodes row inside false (tree_of nodes constants) [] [] 0 0 none_good (λ e. absurd (false≢true e)) (omega (arith, h));
-      same = begun_open means nodes row (tree_of nodes constants) [] [] 0 0 ∙ alone root_read;
+      same = begun_open means nodes row (tree_of nodes constants) [] [] 0 0 ∙ alone (open_reading means nodes row (tree_of nodes constants) [] 0);
     }
 
     -- a turn
-    pub goes : (f : Pending) (fs : List Pending) (ls : List Line) (p r : ℕ) (t : Told) → Going (state (f ∷ fs) ls p t r) → Going (turn_by means nodes row f.way f fs ls p r t)
+    pub goes : (f : Pending) (fs : List Pending) (ls : List Line) (p r : ℕ) (t : Told) → Going means nodes row constants (state (f ∷ fs) ls p t r) → Going means nodes row constants (turn_by means nodes row f.way f fs ls p r t)
     goes f fs ls p r t g = record {
       good = turn_good means nodes row inside f fs ls p r g.good t;
       same = turn_is means nodes row f fs ls p r t g.good.low g.good.chain ∙ g.same;

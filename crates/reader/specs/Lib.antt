@@ -2,4 +2,6 @@
 pub mod Turns
 pub mod Nesting
 pub mod Models
+pub mod Resuming
+pub mod Plain
 pub mod Refusals

@@ -1,16 +1,20 @@
 // What is read: a row, under a layout and a family; and what stands at a place in it.
-ghost use Rattle.std.specs.Prelude.{◌≡◌, ◌+◌, ◌<◌, ◌≤◌, ℕ, ℤ, Ok, Some, IfSome, length, drop as from_place, vec_items};
+ghost use Rattle.std.specs.Prelude.{◌≡◌, ◌+◌, ◌<◌, ◌≤◌, ℕ, ℤ, List, false, Ok, Some, IfSome, length, drop as from_place, vec_items};
 ghost use Rattle.fields.specs.Laws.{Bytes};
-ghost use Rattle.layout.specs.Trees.{operand_of};
+ghost use Rattle.layout.specs.Trees.{operand_of, node_at};
 ghost use Rattle.report.specs.Values.{value_of, values as values_of, latest};
 ghost use Rattle.report.specs.Checks.{checked};
 ghost use Rattle.report.specs.Leaves.{mark_reads, first_from};
+ghost use Rattle.report.specs.declared.line.Line.{Line};
+ghost use Rattle.report.specs.declared.outcome.Outcome.TheVariants.{Good};
+ghost use Rattle.report.specs.Lines.{line};
+ghost use Rattle.report.specs.Printing.{share_of};
 
 use crate::open::Open;
 use fields::cause::{Cause, Reading};
 use fields::cursor::Cursor;
 use fields::family::{Family, Kind};
-use layout::node::{Relation, Shape, Side};
+use layout::node::{Node, Relation, Shape, Side};
 use layout::table::Layout;
 use memchr::memchr;
 use report::check::compared;
@@ -24,11 +28,20 @@ pub(crate) struct Source<'a, F: Family> {
     pub(crate) row: &'a [u8],
 }
 
+// A field or a mark at a place in the row: what is read there, whether its bytes are kept if it is read, and the part behind it.
+#[derive(Clone, Copy)]
+pub(crate) struct Leaf {
+    pub(crate) reading: Reading,
+    pub(crate) keeps: bool,
+    pub(crate) next: Option<u16>,
+}
+
 impl<F: Family> Source<'_, F> {
-    ghost use Rattle.reader.specs.Turns.{moved};
-    ghost use Rattle.reader.specs.Models.{node_in, part_in, later_in};
+    ghost use Rattle.reader.specs.Turns.{Pending, begin, leaf_begun, moved};
+    ghost use Rattle.reader.specs.Models.{nodes_of, node_in, part_in, later_in};
 
     // What the family reads at a place.
+    #[inline(always)]
     pub(crate) fn read_field(&self, kind: Kind, place: usize) -> Reading
         requires within { place ≤ length self.now.row.now }
         requires bytes { Bytes self.now.row.now }
@@ -53,6 +66,32 @@ impl<F: Family> Source<'_, F> {
             Some(&stands) if stands == byte => Ok((1, 0)),
             Some(_) => Err(Cause::Form),
         }
+    }
+
+    // A part at a place, if it is a field or a mark.
+    #[inline(always)]
+    pub(crate) fn leaf(&self, part: u16, place: usize) -> Option<Leaf>
+        requires within { place ≤ length self.now.row.now }
+        requires bytes { Bytes self.now.row.now }
+        ensures begun { IfSome result (λ x. (fs : List Pending) (ls : List Line) (r : ℕ) → begin (F.Family.means self.now.family.now) (nodes_of self.now) self.now.row.now false (part_in self.now part) fs ls place r ≡ leaf_begun part fs ls place r x.reading) }
+        ensures within { IfSome result (λ x. (y : ℕ × ℤ) → x.reading ≡ Ok y → place + y.0 ≤ length self.now.row.now) }
+        ensures textless { IfSome result (λ x. x.keeps ≡ false → (n : ℕ) (z : ℤ) → share_of (F.Family.means self.now.family.now) (nodes_of self.now) (line part Good place n z) ≡ 0) }
+        ensures next { IfSome result (λ x. x.next ≡ (node_at (nodes_of self.now) part).next) }
+    {
+        let Node { shape, next } = self.layout.node(part);
+        let (reading, keeps) = match shape {
+            Shape::Field { kind, .. } => (self.read_field(kind, place), self.keeps(kind)),
+            Shape::Mark { byte } => (self.read_mark(byte, place), false),
+            Shape::Sequence { .. }
+            | Shape::Choice { .. }
+            | Shape::Optional { .. }
+            | Shape::Check { .. } => return None,
+        };
+        Some(Leaf {
+            reading,
+            keeps,
+            next,
+        })
     }
 
     // The first place of a byte from a place on.

@@ -1,5 +1,5 @@
 // Reading a row: the loop over the open nodes.
-ghost use Rattle.std.specs.Prelude.{◌≡◌, ◌+◌, ◌<◌, ◌≤◌, [], ◌++◌, ◌↔◌, false, true, length, vec_len, vec_capacity, MatchResult, OnOk, nat_lt};
+ghost use Rattle.std.specs.Prelude.{◌≡◌, ◌+◌, ◌<◌, ◌≤◌, [], ◌++◌, ◌↔◌, None, false, true, length, vec_len, vec_capacity, MatchResult, OnOk, nat_lt};
 ghost use Rattle.layout.specs.Trees.{height};
 ghost use Rattle.fields.specs.Laws.{Bytes};
 ghost use Rattle.report.specs.Reports.{row_lines};
@@ -7,12 +7,12 @@ ghost use Rattle.report.specs.Meets.{meets};
 ghost use Rattle.store.specs.Stored.{Made, Framed, Cleared, room_of};
 ghost use Rattle.reader.specs.Refusals.{refusal, answer};
 
-use crate::open::{Open, Told};
-use crate::reader::keeping::count_faults;
+use crate::open::{Open, Told, Way};
 use crate::reader::{DEEPEST, Reader};
 use crate::refusal::Refusal;
 use crate::source::Source;
 use fields::family::Family;
+use layout::node::Shape;
 use layout::table::Layout;
 use report::line::Line;
 use report::outcome::Outcome;
@@ -40,6 +40,8 @@ impl Reader {
     ghost use Rattle.reader.specs.declared.refusal.Refusal.TheVariants.{TooManyLines};
     ghost use Rattle.reader.specs.Turns.{raised};
     ghost use Rattle.reader.specs.Models.{ReadyIn, state_in, part_in, begun_in, innermost_in, root_in, read_in, whole_in, broke};
+    ghost use Rattle.reader.specs.Resuming.{GoingIn};
+    ghost use Rattle.reader.specs.Plain.{PlainIn};
 
     // The root is begun, open; the innermost open node is handed out, if there is one.
     fn begin_root<F: Family>(&mut self, source: &Source<F>, lines: &mut Vec<Line>) -> Option<Open>
@@ -52,26 +54,49 @@ impl Reader {
         self.stack.pop()
     }
 
-    // Reads the root, open, from the row's beginning; or more lines would have to stand at one time than may.
-    fn read_root<F: Family>(
+    // The root is begun, open, at the row's beginning, and its first parts are read as long as that goes straight on. What is still open is handed out, and whether nothing is and all lines are plain. (A function of its own in the program that is built, so that its variables stay in registers.)
+    #[inline(never)]
+    fn start<F: Family>(
         &mut self,
         source: &Source<F>,
         lines: &mut Vec<Line>,
-    ) -> Result<(), Full>
+    ) -> (Option<Open>, bool)
         requires bytes { Bytes source.now.row.now }
         requires none { lines.old.items ≡ [] }
         requires room { 514 ≤ vec_capacity lines.old }
-        ensures cases { MatchResult result (λ _. (read_in self.new lines.new.items ≡ root_in F.Family source.now) × (self.new.reach ≤ 512) × (self.new.place ≤ length source.now.row.now) × (length lines.new.items ≤ self.new.reach)) (λ _. 512 < (root_in F.Family source.now).reach) }
+        ensures going { GoingIn F.Family source.now (innermost_in source.now result.0 (state_in source.now self.new lines.new.items)) }
+        ensures plain { result.1 ≡ true → (result.0 ≡ None) × PlainIn F.Family source.now lines.new.items }
         ensures capacity { vec_capacity lines.new ≡ vec_capacity lines.old }
     {
         self.stack.clear();
         self.place = 0;
         self.told = Told::Begin;
         self.reach = 0;
-        let mut innermost = self.begin_root(source, lines);
+        match source.layout.node(ROOT).shape {
+            Shape::Sequence { child } => {
+                let f = self.hold_node(lines, Way::Sequence, ROOT, child);
+                self.read_straight(source, lines, f)
+            }
+            _ => (self.begin_root(source, lines), false),
+        }
+    }
+
+    // Reads the root, open, from the row's beginning, and tells whether all its lines are plain; or more lines would have to stand at one time than may.
+    fn read_root<F: Family>(
+        &mut self,
+        source: &Source<F>,
+        lines: &mut Vec<Line>,
+    ) -> Result<bool, Full>
+        requires bytes { Bytes source.now.row.now }
+        requires none { lines.old.items ≡ [] }
+        requires room { 514 ≤ vec_capacity lines.old }
+        ensures cases { MatchResult result (λ plain. (read_in self.new lines.new.items ≡ root_in F.Family source.now) × (self.new.reach ≤ 512) × (self.new.place ≤ length source.now.row.now) × (length lines.new.items ≤ self.new.reach) × (plain ≡ true → PlainIn F.Family source.now lines.new.items)) (λ _. 512 < (root_in F.Family source.now).reach) }
+        ensures capacity { vec_capacity lines.new ≡ vec_capacity lines.old }
+    {
+        let (mut innermost, plain) = self.start(source, lines);
         while self.reach <= MOST_LINES {
             let Some(f) = innermost else {
-                return Ok(());
+                return Ok(plain);
             };
             innermost = self.step(source, lines, f);
         }
@@ -104,24 +129,25 @@ impl Reader {
         self.write_scrap(lines, 0, end);
     }
 
-    // Writes the lines of a row's report; or more lines would have to stand at one time than may.
+    // Writes the lines of a row's report, and tells whether all are plain; or more lines would have to stand at one time than may.
     fn write_lines<F: Family>(
         &mut self,
         source: &Source<F>,
         lines: &mut Vec<Line>,
-    ) -> Result<(), Full>
+    ) -> Result<bool, Full>
         requires bytes { Bytes source.now.row.now }
         requires none { lines.old.items ≡ [] }
         requires room { 514 ≤ vec_capacity lines.old }
-        ensures cases { MatchResult result (λ _. (lines.new.items ≡ (whole_in F.Family source.now).lines) × ((whole_in F.Family source.now).reach ≤ 512) × (length lines.new.items ≤ 512)) (λ _. 512 < (whole_in F.Family source.now).reach) }
+        ensures cases { MatchResult result (λ plain. (lines.new.items ≡ (whole_in F.Family source.now).lines) × ((whole_in F.Family source.now).reach ≤ 512) × (length lines.new.items ≤ 512) × (plain ≡ true → PlainIn F.Family source.now lines.new.items)) (λ _. 512 < (whole_in F.Family source.now).reach) }
         ensures capacity { vec_capacity lines.new ≡ vec_capacity lines.old }
     {
-        self.read_root(source, lines)?;
+        let plain = self.read_root(source, lines)?;
+        let all_read = source.row.len() <= self.place;
         self.end_row(source, lines);
         if self.reach > MOST_LINES {
             return Err(Full);
         }
-        Ok(())
+        Ok(plain && all_read)
     }
 
     // The same, and where it may not be, no line is left.
@@ -129,15 +155,15 @@ impl Reader {
         &mut self,
         source: &Source<F>,
         lines: &mut Vec<Line>,
-    ) -> Result<(), Refusal>
+    ) -> Result<bool, Refusal>
         requires bytes { Bytes source.now.row.now }
         requires none { lines.old.items ≡ [] }
         requires room { 514 ≤ vec_capacity lines.old }
-        ensures cases { MatchResult result (λ _. (lines.new.items ≡ (whole_in F.Family source.now).lines) × ((whole_in F.Family source.now).reach ≤ 512) × (length lines.new.items ≤ 512)) (λ e. (e ≡ TooManyLines) × (512 < (whole_in F.Family source.now).reach) × (lines.new.items ≡ [])) }
+        ensures cases { MatchResult result (λ plain. (lines.new.items ≡ (whole_in F.Family source.now).lines) × ((whole_in F.Family source.now).reach ≤ 512) × (length lines.new.items ≤ 512) × (plain ≡ true → PlainIn F.Family source.now lines.new.items)) (λ e. (e ≡ TooManyLines) × (512 < (whole_in F.Family source.now).reach) × (lines.new.items ≡ [])) }
         ensures capacity { vec_capacity lines.new ≡ vec_capacity lines.old }
     {
         match self.write_lines(source, lines) {
-            Ok(()) => Ok(()),
+            Ok(plain) => Ok(plain),
             Err(Full) => {
                 lines.clear();
                 Err(Refusal::TooManyLines)
@@ -177,9 +203,8 @@ impl Reader {
             family,
             row,
         };
-        self.read_lines(&source, &mut report.lines)?;
-        report.faults = count_faults(&report.lines);
-        source.keep_text(&report.lines, &mut report.text);
+        let plain = self.read_lines(&source, &mut report.lines)?;
+        report.faults = source.sum_up(&report.lines, plain, &mut report.text);
         report.row_length = row.len();
         Ok(())
     }

@@ -16,7 +16,7 @@ use report::outcome::Outcome;
 
 impl Reader {
     ghost use Rattle.reader.specs.declared.open.Told.TheVariants.{Clean};
-    ghost use Rattle.reader.specs.Models.{stack_in, state_of, pending_of, parts_from};
+    ghost use Rattle.reader.specs.Models.{stack_in, state_of, pending_of, parts_from, under_node};
 
     // One line more stands.
     pub(crate) fn write(&mut self, lines: &mut Vec<Line>, line: Line)
@@ -124,24 +124,22 @@ impl Reader {
         };
     }
 
-    // A node with parts is opened.
-    pub(crate) fn open_node(&mut self, lines: &mut Vec<Line>, way: Way, node: u16, child: u16)
+    // A node with parts is opened, and held beside the list of open nodes.
+    pub(crate) fn hold_node(
+        &mut self,
+        lines: &mut Vec<Line>,
+        way: Way,
+        node: u16,
+        child: u16,
+    ) -> Open
         requires room { vec_len lines.old < vec_capacity lines.old }
-        requires nest { vec_len self.old.stack < vec_capacity self.old.stack }
         requires some { 0 < child }
-        ensures after { (nodes : List Node) (constants : List ℤ) → state_of nodes constants self.new lines.new.items ≡ opened way node (part_at nodes constants node) (parts_from nodes constants (Some child)) (stack_in nodes constants self.old) lines.old.items self.old.place self.old.reach }
+        ensures after { (nodes : List Node) (constants : List ℤ) → under_node (pending_of nodes constants result) (state_of nodes constants self.new lines.new.items) ≡ opened way node (part_at nodes constants node) (parts_from nodes constants (Some child)) (stack_in nodes constants self.old) lines.old.items self.old.place self.old.reach }
+        ensures stays { self.new.stack ≡ self.old.stack }
         ensures capacity { vec_capacity lines.new ≡ vec_capacity lines.old }
     {
         let start = self.place;
-        self.stack.push_reserved(Open {
-            way,
-            node,
-            at: lines.len(),
-            start,
-            last: node,
-            rest: Some(child),
-            branch: 0,
-        });
+        let at = lines.len();
         self.write(
             lines,
             Line {
@@ -153,6 +151,27 @@ impl Reader {
             },
         );
         self.told = Told::Begin;
+        Open {
+            way,
+            node,
+            at,
+            start,
+            last: node,
+            rest: Some(child),
+            branch: 0,
+        }
+    }
+
+    // A node with parts is opened.
+    pub(crate) fn open_node(&mut self, lines: &mut Vec<Line>, way: Way, node: u16, child: u16)
+        requires room { vec_len lines.old < vec_capacity lines.old }
+        requires nest { vec_len self.old.stack < vec_capacity self.old.stack }
+        requires some { 0 < child }
+        ensures after { (nodes : List Node) (constants : List ℤ) → state_of nodes constants self.new lines.new.items ≡ opened way node (part_at nodes constants node) (parts_from nodes constants (Some child)) (stack_in nodes constants self.old) lines.old.items self.old.place self.old.reach }
+        ensures capacity { vec_capacity lines.new ≡ vec_capacity lines.old }
+    {
+        let f = self.hold_node(lines, way, node, child);
+        self.stack.push_reserved(f);
     }
 
     // The line of an open node is completed.

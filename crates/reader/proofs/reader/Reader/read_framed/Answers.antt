@@ -1,7 +1,7 @@
 -- The faults of the report are those of the defined one.
-use Rattle.std.proofs.Common.{◌≡◌, sym, ap, ◌∙◌, vec_items}
+use Rattle.std.proofs.Common.{sym, ap, ◌∙◌, vec_items}
 use Rattle.report.specs.Lines.{faults}
-use Rattle.report.specs.Reports.{Report, fault_count, report}
+use Rattle.report.specs.Reports.{Report}
 use Rattle.report.proofs.CleanRows.{clean_row}
 use Rattle.reader.proofs.reader.Reader.read_framed.Goals as goal
 
