@@ -1,9 +1,10 @@
 // Filing rows, each with its own slip.
 ghost use Rattle.std.specs.Prelude.{◌≡◌, ℕ, List, [], IfOk, IfErr, IfSome};
+ghost use Rattle.import.specs.Answers.{said_filed};
 ghost use Rattle.import.specs.States.{model_of};
 ghost use Rattle.import.specs.Steps.{file_row};
 ghost use Rattle.import.specs.declared.stage.How.TheVariants.{SetAside};
-ghost use Rattle.slips.specs.Held.{Holds};
+ghost use Rattle.slips.specs.Held.{Holds, read_kept};
 
 use fields::family::Family;
 use import::answer::{Next, Opened};
@@ -72,7 +73,8 @@ fn read_and_keep<F: Family, R: RowRule>(
     file: &[u8],
 ) -> Result<(), (Refusal, Slip)>
     requires { Holds slip (model_of file.now import.old) }
-    ensures { IfErr result (λ e. Holds e.1 (model_of file.now import.new)) }
+    ensures kept { (said_filed result, model_of file.now import.new) ≡ read_kept file.now slip (model_of file.now import.old) }
+    ensures open { IfErr result (λ e. Holds e.1 (model_of file.now import.new)) }
 {
     if let Err(why) = import.read(file) {
         return Err((why, slip));
