@@ -7,6 +7,4 @@ pub mod numbers;
 pub mod problems;
 pub mod readings;
 pub mod rules;
-#[cfg(test)]
-mod tests;
 pub mod texts;

@@ -8,6 +8,4 @@ pub mod matched;
 mod reports;
 pub mod row;
 mod shown;
-#[cfg(test)]
-mod tests;
 pub mod texts;

@@ -2,7 +2,5 @@
 #![tactic(auto)]
 
 pub mod line;
-#[cfg(test)]
-mod tests;
 pub mod tree;
 pub mod words;

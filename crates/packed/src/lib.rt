@@ -5,5 +5,3 @@ pub mod constant;
 mod eight;
 pub mod loader;
 pub mod record;
-#[cfg(test)]
-mod tests;

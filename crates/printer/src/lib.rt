@@ -7,8 +7,6 @@ mod part;
 mod parts;
 mod row;
 mod source;
-#[cfg(test)]
-mod tests;
 
 pub use frame::print_framed;
 pub use length::printed_length;

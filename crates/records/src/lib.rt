@@ -3,5 +3,3 @@
 
 mod hex;
 pub mod record;
-#[cfg(test)]
-mod tests;

@@ -5,6 +5,4 @@ pub mod check;
 pub mod laws;
 pub mod line;
 pub mod outcome;
-#[cfg(test)]
-mod tests;
 pub mod worked;

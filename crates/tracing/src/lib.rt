@@ -3,6 +3,4 @@
 
 pub mod print;
 pub mod stop;
-#[cfg(test)]
-mod tests;
 pub mod trace;

@@ -1,7 +1,4 @@
 // The limits of rows and reports, exports written again, and an export that is refused.
-use crate::print::print_file;
-use crate::stop::Stop;
-use crate::trace::write_trace;
 use fields::ascii::Ascii;
 use import::import::Import;
 use import::refusal::Refusal;
@@ -11,6 +8,9 @@ use rows::newline::Newline;
 use std::alloc::{AllocError, Global};
 use std::str;
 use std::test::Fail;
+use tracing::print::print_file;
+use tracing::stop::Stop;
+use tracing::trace::write_trace;
 
 // A text field up to a comma.
 const TEXT: &[u8] = &[0x01, 0x00, 0x11, 0x0B, 0x00, 0x00, 0x00, 0x00, 0x00, 0x00];

@@ -1,7 +1,7 @@
 // What is told of an export with faults, and of exports that were matched.
-use crate::explain::write_explanation;
-use crate::matched::MatchedLine;
 use cli::families::{AnyFamily, family_of};
+use explaining::explain::write_explanation;
+use explaining::matched::MatchedLine;
 use import::answer::{Difference, Matched};
 use import::import::Import;
 use report::worked::worked_examples;
@@ -88,9 +88,13 @@ notice: the closing row, row 1, has no newline at its end; it is a row like the 
 "
         )
     );
-    for _ in 0..4096 {
-        file.push(b'x')?;
-    }
+    Ok(())
+}
+
+#[test]
+fn a_row_that_is_too_long_is_told(rt: HostRuntime) -> Result<(), Fail> {
+    let heap = rt.alloc();
+    let mut file = vec![in heap; b'x'; 4162]?;
     file.push(b'\n')?;
     let text = explained(heap, CHOICE, &file)?;
     assert_eq!(rt;

@@ -1,7 +1,7 @@
 // The tree of a layout with every shape, in words.
-use crate::tree::tree_lines;
 use cli::families::{AnyFamily, family_of};
 use layout::table::Layout;
+use outlines::tree::tree_lines;
 use std::test::Fail;
 
 // Nodes need not be numbered in the order of reading: the option's part is node 10.

@@ -1,6 +1,6 @@
 // A packed list of nodes and one of constants, loaded.
-use crate::loader::{Packed, load};
-use crate::record::NodeRecord;
+use packed::loader::{Packed, load};
+use packed::record::NodeRecord;
 
 #[test]
 fn packed_lists(rt: HostRuntime) {

@@ -1,6 +1,6 @@
-// What the public values are, run.
-use crate::outcome::Outcome;
-use crate::worked::worked_examples;
+// The numbers of outcomes, and the worked rows.
+use report::outcome::Outcome;
+use report::worked::worked_examples;
 
 #[test]
 fn outcomes_have_their_numbers(rt: HostRuntime) {

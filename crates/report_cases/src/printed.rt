@@ -1,9 +1,9 @@
 // A faulty row's report, printed and framed.
 ghost use Rattle.std.specs.Prelude.{◌≡◌};
 
-use crate::{print, print_framed, printed_length};
 use fields::ascii::Ascii;
 use layout::table::Layout;
+use printer::{print, print_framed, printed_length};
 use report::line::Line;
 use report::outcome::Outcome;
 use report::worked::worked_examples;
