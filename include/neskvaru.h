@@ -4,10 +4,11 @@
    program's commands, without a zero byte behind them: a rule is `newline`, `fixed:W` or `sample:N:RULE`, a family is `ascii`,
    `binary` or `pair:FAMILY:FAMILY`.
 
-   What C owes: each pointer is valid for the length beside it, or is NULL with a length of 0; `length`, `answer` and `refused` are
-   valid and not NULL; and no buffer that a call writes to overlaps what it reads. A buffer need not be filled before. `malloc`,
-   `realloc` and `free` are from one allocator and align as they do in any C library. No call is made from a signal handler, nor in
-   the forked child of a process with threads. */
+   What C owes: each pointer is valid for the length beside it, or is NULL; `length`, `answer` and `refused` are valid, or NULL. What
+   a call writes to (the buffer, `length`, `answer`, `refused`) overlaps nothing else that it is given. What it only reads may
+   overlap, so a file may be matched with itself. A NULL with a length of 0 stands for no bytes; any other NULL is refused with
+   NESKVARU_BUFFER_TOO_SHORT. A buffer need not be filled before. `malloc`, `realloc` and `free` are from one allocator and align as
+   they do in any C library. No call is made from a signal handler, nor in the forked child of a process with threads. */
 #ifndef NESKVARU_H
 #define NESKVARU_H
 
@@ -23,7 +24,7 @@ extern "C" {
 enum neskvaru_status {
     NESKVARU_DONE = 0,
     NESKVARU_NO_RULE = 11,         /* the words stand for no rule, or a number in them is out of range */
-    NESKVARU_NO_FAMILY = 16,       /* the words stand for no family */
+    NESKVARU_NO_FAMILY = 254,      /* the words stand for no family */
     NESKVARU_FILE_TOO_LONG = 8,    /* a file of more than 16,777,216 bytes */
     NESKVARU_LAYOUT_SIZE = 1,      /* the layout file: its length or its counts are wrong, */
     NESKVARU_LAYOUT_BITS = 2,      /* a shape is unknown, or a bit is set that should not be, */
@@ -34,8 +35,8 @@ enum neskvaru_status {
     NESKVARU_LAYOUT_DEPTH = 7,     /* a node lies too deep */
     NESKVARU_ROW_TOO_LONG = 9,     /* print and match: a row of more than 4,096 bytes is not read */
     NESKVARU_REACH_TOO_FAR = 10,   /* print and match: a row is not read that would have more than 512 lines stand at one time */
-    NESKVARU_BUFFER_TOO_SHORT = 15,/* the buffer has no room; or a pointer is NULL and its length is not 0, which is tried first */
-    NESKVARU_NO_MEMORY = 17        /* there is no memory, at whatever moment that was found */
+    NESKVARU_BUFFER_TOO_SHORT = 15,/* the buffer has no room; or a pointer is NULL that must not be, which is tried first */
+    NESKVARU_NO_MEMORY = 255       /* there is no memory, at whatever moment that was found */
 };
 
 /* What a match answers. */
@@ -78,9 +79,26 @@ static inline const uint8_t *neskvaru_at(const void *bytes) {
     return bytes ? (const uint8_t *)bytes : &none;
 }
 
-/* A NULL whose length is not 0 */
+/* A NULL whose length is not 0. */
 static inline int neskvaru_missing(const void *bytes, size_t length) {
     return !bytes && length != 0;
+}
+
+/* What trace and print have in common: a call that writes to `out`, and the number of bytes to `length`. */
+typedef uint8_t neskvaru_writing(const uint8_t *rule, size_t rule_length, const uint8_t *family, size_t family_length,
+                                 const uint8_t *layout, size_t layout_length, const uint8_t *file, size_t file_length,
+                                 uint8_t *out, size_t out_length, size_t *length);
+
+/* Makes such a call, with no NULL. */
+static inline int neskvaru_write(neskvaru_writing *call, const void *rule, size_t rule_length, const void *family, size_t family_length,
+                                 const void *layout, size_t layout_length, const void *file, size_t file_length,
+                                 void *out, size_t out_length, size_t *length) {
+    uint8_t none = 0;
+    if (neskvaru_missing(rule, rule_length) || neskvaru_missing(family, family_length) || neskvaru_missing(layout, layout_length)
+        || neskvaru_missing(file, file_length) || neskvaru_missing(out, out_length) || !length)
+        return NESKVARU_BUFFER_TOO_SHORT;
+    return call(neskvaru_at(rule), rule_length, neskvaru_at(family), family_length, neskvaru_at(layout), layout_length,
+                neskvaru_at(file), file_length, out ? (uint8_t *)out : &none, out_length, length);
 }
 
 /* Checks a layout file under a family. */
@@ -103,12 +121,8 @@ static inline int neskvaru_check_layout(const void *family, size_t family_length
 static inline int neskvaru_trace(const void *rule, size_t rule_length, const void *family, size_t family_length,
                                  const void *layout, size_t layout_length, const void *file, size_t file_length,
                                  void *out, size_t out_length, size_t *length) {
-    uint8_t none = 0;
-    if (neskvaru_missing(rule, rule_length) || neskvaru_missing(family, family_length) || neskvaru_missing(layout, layout_length)
-        || neskvaru_missing(file, file_length) || neskvaru_missing(out, out_length))
-        return NESKVARU_BUFFER_TOO_SHORT;
-    return neskvaru_trace_bytes(neskvaru_at(rule), rule_length, neskvaru_at(family), family_length, neskvaru_at(layout), layout_length,
-                                neskvaru_at(file), file_length, out ? (uint8_t *)out : &none, out_length, length);
+    return neskvaru_write(neskvaru_trace_bytes, rule, rule_length, family, family_length, layout, layout_length,
+                          file, file_length, out, out_length, length);
 }
 
 /* Writes a file again at the beginning of `out`, from the reports of its rows alone, and its length to `length`; bytes of `out`
@@ -116,12 +130,8 @@ static inline int neskvaru_trace(const void *rule, size_t rule_length, const voi
 static inline int neskvaru_print(const void *rule, size_t rule_length, const void *family, size_t family_length,
                                  const void *layout, size_t layout_length, const void *file, size_t file_length,
                                  void *out, size_t out_length, size_t *length) {
-    uint8_t none = 0;
-    if (neskvaru_missing(rule, rule_length) || neskvaru_missing(family, family_length) || neskvaru_missing(layout, layout_length)
-        || neskvaru_missing(file, file_length) || neskvaru_missing(out, out_length))
-        return NESKVARU_BUFFER_TOO_SHORT;
-    return neskvaru_print_bytes(neskvaru_at(rule), rule_length, neskvaru_at(family), family_length, neskvaru_at(layout), layout_length,
-                                neskvaru_at(file), file_length, out ? (uint8_t *)out : &none, out_length, length);
+    return neskvaru_write(neskvaru_print_bytes, rule, rule_length, family, family_length, layout, layout_length,
+                          file, file_length, out, out_length, length);
 }
 
 /* Matches a resent export against the first, by reports, marks and tails, row by row. Where it is done, `answer` tells how they
@@ -131,7 +141,7 @@ static inline int neskvaru_match(const void *rule, size_t rule_length, const voi
                                  const void *resent, size_t resent_length,
                                  struct neskvaru_answer *answer, struct neskvaru_refused *refused) {
     if (neskvaru_missing(rule, rule_length) || neskvaru_missing(family, family_length) || neskvaru_missing(layout, layout_length)
-        || neskvaru_missing(first, first_length) || neskvaru_missing(resent, resent_length))
+        || neskvaru_missing(first, first_length) || neskvaru_missing(resent, resent_length) || !answer || !refused)
         return NESKVARU_BUFFER_TOO_SHORT;
     return neskvaru_match_bytes(neskvaru_at(rule), rule_length, neskvaru_at(family), family_length, neskvaru_at(layout), layout_length,
                                 neskvaru_at(first), first_length, neskvaru_at(resent), resent_length, answer, refused);

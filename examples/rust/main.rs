@@ -1,4 +1,4 @@
-//! Imports a sample through the static library, as examples/c/import.c does, and prints the same. It is given the names of an export and of a layout.
+//! Imports a sample through the static library, as examples/c/import.c does, and prints the same, but for what would be read at NULL. It is given the names of an export and of a layout.
 use std::env;
 use std::fs;
 use std::io;
@@ -66,9 +66,9 @@ mod neskvaru {
 
     /// # Safety
     /// The buffer is valid for its length, and no other argument overlaps it.
-    pub unsafe fn trace(rule: &str, family: &str, layout: &[u8], file: &[u8], out: Buffer, length: &mut usize) -> u8 {
+    pub unsafe fn trace(rule: &str, family: &str, layout: &[u8], file: &[u8], out: Buffer, length: Option<&mut usize>) -> u8 {
         let mut none = 0;
-        let Some(at) = out.place(&mut none) else { return BUFFER_TOO_SHORT };
+        let (Some(at), Some(length)) = (out.place(&mut none), length) else { return BUFFER_TOO_SHORT };
         unsafe {
             neskvaru_trace_bytes(
                 rule.as_ptr(), rule.len(), family.as_ptr(), family.len(), layout.as_ptr(), layout.len(),
@@ -79,9 +79,9 @@ mod neskvaru {
 
     /// # Safety
     /// The buffer is valid for its length, and no other argument overlaps it.
-    pub unsafe fn print(rule: &str, family: &str, layout: &[u8], file: &[u8], out: Buffer, length: &mut usize) -> u8 {
+    pub unsafe fn print(rule: &str, family: &str, layout: &[u8], file: &[u8], out: Buffer, length: Option<&mut usize>) -> u8 {
         let mut none = 0;
-        let Some(at) = out.place(&mut none) else { return BUFFER_TOO_SHORT };
+        let (Some(at), Some(length)) = (out.place(&mut none), length) else { return BUFFER_TOO_SHORT };
         unsafe {
             neskvaru_print_bytes(
                 rule.as_ptr(), rule.len(), family.as_ptr(), family.len(), layout.as_ptr(), layout.len(),
@@ -90,7 +90,10 @@ mod neskvaru {
         }
     }
 
-    pub fn match_resent(rule: &str, family: &str, layout: &[u8], first: &[u8], resent: &[u8], answer: &mut Answer, refused: &mut Refused) -> u8 {
+    pub fn match_resent(
+        rule: &str, family: &str, layout: &[u8], first: &[u8], resent: &[u8], answer: Option<&mut Answer>, refused: Option<&mut Refused>,
+    ) -> u8 {
+        let (Some(answer), Some(refused)) = (answer, refused) else { return BUFFER_TOO_SHORT };
         unsafe {
             neskvaru_match_bytes(
                 rule.as_ptr(), rule.len(), family.as_ptr(), family.len(), layout.as_ptr(), layout.len(),
@@ -109,22 +112,27 @@ fn import(layout: &[u8], file: &[u8]) -> io::Result<()> {
     let mut out = vec![0; 65536];
     let mut length = 0;
     println!("layout: status {}", neskvaru::check_layout("ascii", layout));
-    let status = unsafe { neskvaru::trace("newline", "ascii", layout, file, Buffer::of(&mut out), &mut length) };
+    let status = unsafe { neskvaru::trace("newline", "ascii", layout, file, Buffer::of(&mut out), Some(&mut length)) };
     println!("trace: status {status}, length {length}");
     io::stdout().write_all(&out[..length])?;
-    let status = unsafe { neskvaru::print("newline", "ascii", layout, file, Buffer::of(&mut out), &mut length) };
+    let status = unsafe { neskvaru::print("newline", "ascii", layout, file, Buffer::of(&mut out), Some(&mut length)) };
     let same = if &out[..length] == file { "the file" } else { "another file" };
     println!("print: status {status}, length {length}, {same}");
     Ok(())
 }
 
-/// Matches the sample with a file that was sent again.
-fn match_one(what: &str, layout: &[u8], file: &[u8], resent: &[u8]) {
+/// Matches the sample with a file that was sent again; a place for what is answered may be missing.
+fn match_at(what: &str, layout: &[u8], file: &[u8], resent: &[u8], to: bool, at: bool) {
     let mut answer = Answer { how: 99, row: 99 };
     let mut refused = Refused { side: 99, row: 99 };
-    let status = neskvaru::match_resent("newline", "ascii", layout, file, resent, &mut answer, &mut refused);
+    let places = (to.then_some(&mut answer), at.then_some(&mut refused));
+    let status = neskvaru::match_resent("newline", "ascii", layout, file, resent, places.0, places.1);
     let (Answer { how, row }, Refused { side, row: refused_row }) = (answer, refused);
     println!("match, {what}: status {status}, how {how}, row {row}; refused: side {side}, row {refused_row}");
+}
+
+fn match_one(what: &str, layout: &[u8], file: &[u8], resent: &[u8]) {
+    match_at(what, layout, file, resent, true, true);
 }
 
 fn match_all(layout: &[u8], file: &[u8]) {
@@ -135,6 +143,8 @@ fn match_all(layout: &[u8], file: &[u8]) {
     match_one("with a newline at its end", layout, file, &[file, b"\n"].concat());
     match_one("no bytes", layout, file, b"");
     match_one("a row too long", layout, file, &[b'1'; 5000]);
+    match_at("no place for the answer", layout, file, file, false, true);
+    match_at("no place for a refusal", layout, file, file, true, false);
 }
 
 /// Tells a refused call, and whether buffer and length are as they were.
@@ -147,8 +157,8 @@ fn refused(what: &str, out: &mut [u8], call: impl FnOnce(Buffer, &mut usize) -> 
 
 fn refuse(layout: &[u8], file: &[u8]) {
     let out = &mut [170; 65536][..];
-    let trace = |rule: &str, family: &str, layout: &[u8], out: Buffer, length: &mut usize| unsafe { neskvaru::trace(rule, family, layout, file, out, length) };
-    let print = |file: &[u8], at: *mut u8, room: usize, length: &mut usize| unsafe { neskvaru::print("newline", "ascii", layout, file, Buffer { at, length: room }, length) };
+    let trace = |rule: &str, family: &str, layout: &[u8], out: Buffer, length: &mut usize| unsafe { neskvaru::trace(rule, family, layout, file, out, Some(length)) };
+    let print = |file: &[u8], at: *mut u8, room: usize, length: &mut usize| unsafe { neskvaru::print("newline", "ascii", layout, file, Buffer { at, length: room }, Some(length)) };
     refused("a width of 0", out, |out, length| trace("fixed:0", "ascii", layout, out, length));
     refused("no words", out, |out, length| trace("", "ascii", layout, out, length));
     refused("no family", out, |out, length| trace("newline", "ebcdic", layout, out, length));
@@ -158,6 +168,8 @@ fn refuse(layout: &[u8], file: &[u8]) {
     refused("a buffer a byte short", out, |out, length| print(file, out.at, file.len() - 1, length));
     refused("no buffer", out, |_, length| print(file, NULL.at, 0, length));
     refused("a null buffer", out, |_, length| print(file, NULL.at, 10, length));
+    refused("no place for the length of a trace", out, |out, _| unsafe { neskvaru::trace("newline", "ascii", layout, file, out, None) });
+    refused("no place for the length of a print", out, |out, _| unsafe { neskvaru::print("newline", "ascii", layout, file, out, None) });
     let mut length = 77;
     let status = print(b"", NULL.at, 0, &mut length);
     println!("a null file of no bytes: status {status}, length {length}");
@@ -167,12 +179,21 @@ fn refuse(layout: &[u8], file: &[u8]) {
 fn orders(layout: &[u8]) {
     let long_file = &vec![0; 16_777_217][..];
     let out = &mut [170; 65536][..];
-    let trace = |rule: &str, family: &str, file: &[u8], out: Buffer, length: &mut usize| unsafe { neskvaru::trace(rule, family, b"", file, Buffer { length: 0, ..out }, length) };
+    let trace = |rule: &str, family: &str, file: &[u8], out: Buffer, length: &mut usize| unsafe { neskvaru::trace(rule, family, b"", file, Buffer { length: 0, ..out }, Some(length)) };
     refused("no rule, no family", out, |out, length| trace("fixed", "ebcdic", long_file, out, length));
     refused("no family, a file too long", out, |out, length| trace("fixed:1", "ebcdic", long_file, out, length));
     refused("a file too long, an empty layout", out, |out, length| trace("fixed:1", "ascii", long_file, out, length));
     refused("an empty layout, no room", out, |out, length| trace("fixed:1", "ascii", &long_file[..5000], out, length));
-    refused("a row too long, no room", out, |out, length| unsafe { neskvaru::print("newline", "ascii", layout, &long_file[..5000], Buffer { length: 0, ..out }, length) });
+    refused("a row too long, no room", out, |out, length| unsafe { neskvaru::print("newline", "ascii", layout, &long_file[..5000], Buffer { length: 0, ..out }, Some(length)) });
+    refused("no place for the length, no rule", out, |out, _| unsafe { neskvaru::trace("fixed:0", "ebcdic", b"", long_file, Buffer { length: 0, ..out }, None) });
+}
+
+fn check_all(layout: &[u8]) {
+    let check = |what: &str, family: &str, layout: &[u8]| println!("layout, {what}: status {}", neskvaru::check_layout(family, layout));
+    check("no bytes", "ascii", b"");
+    check("a byte short", "ascii", &layout[..layout.len() - 1]);
+    check("a kind unknown", "binary", layout);
+    check("no family, no bytes", "ebcdic", b"");
 }
 
 fn main() -> ExitCode {
@@ -187,6 +208,7 @@ fn main() -> ExitCode {
         match_all(&layout, &file);
         refuse(&layout, &file);
         orders(&layout);
+        check_all(&layout);
         Ok(())
     });
     match done {

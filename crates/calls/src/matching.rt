@@ -145,7 +145,7 @@ pub fn match_words(
     refused: &mut RefusedAt,
 ) -> Status
     ensures named { MatchesNamed layout.now one.now other.now (result, answer.new, refused.new) answer.old refused.old }
-    ensures stays { Stays answer.old answer.new result }
+    ensures answer_stays { Stays answer.old answer.new result }
 {
     let first = match named_by(rule, family) {
         Ok(named) => named,

@@ -6,7 +6,7 @@ use crate::words::NoWords;
 use import::refusal::Refusal;
 use tracing::stop::Stop;
 
-// Each is known by its number. A call that does not end in done changes nothing.
+// Each is known by its number. A call that does not end in done changes neither buffer nor length nor answer.
 #[derive(Clone, Copy, PartialEq, Eq, Debug)]
 pub enum Status {
     Done,
@@ -14,9 +14,9 @@ pub enum Status {
     Refused(Refusal),
     // 11: the words stand for no rule, or a number in them is out of range
     NoRule,
-    // 16: the words stand for no family
+    // 254: the words stand for no family
     NoFamily,
-    // 17: there is no memory
+    // 255: there is no memory
     NoMemory,
 }
 
@@ -29,8 +29,8 @@ impl Status {
             Status::Done => 0,
             Status::Refused(why) => why.number(),
             Status::NoRule => 11,
-            Status::NoFamily => 16,
-            Status::NoMemory => 17,
+            Status::NoFamily => 254,
+            Status::NoMemory => 255,
         }
     }
 }

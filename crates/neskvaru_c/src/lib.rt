@@ -34,7 +34,7 @@ pub extern "C" fn neskvaru_trace_bytes(
 ) -> u8
     ensures named { Numbered result (λ s. LeavesNamed (λ rule means. traced rule means layout.now file.now) (s, out.new, count.new) out.old count.old) }
     ensures buffer_stays { result ≢ 0 → out.new ≡ out.old }
-    ensures count_stays { result ≢ 0 → count.new ≡ count.old }
+    ensures length_stays { result ≢ 0 → count.new ≡ count.old }
 {
     trace_words(heap, rule, family, layout, file, out, count).number()
 }
@@ -54,7 +54,7 @@ pub extern "C" fn neskvaru_print_bytes(
     ensures named { Numbered result (λ s. LeavesNamed (λ rule means. printed rule means layout.now file.now) (s, out.new, count.new) out.old count.old) }
     ensures written { result ≡ 0 → (out.new ≡ laid file.now out.old) × (count.new ≡ length file.now) }
     ensures buffer_stays { result ≢ 0 → out.new ≡ out.old }
-    ensures count_stays { result ≢ 0 → count.new ≡ count.old }
+    ensures length_stays { result ≢ 0 → count.new ≡ count.old }
 {
     print_words(heap, rule, family, layout, file, out, count).number()
 }
