@@ -1,6 +1,7 @@
 // What stops a command, and the line that tells it.
 use cli::problems::Problem;
 use std::io;
+use std::io::ErrorKind;
 
 // Why a command stopped.
 #[derive(Drop)]
@@ -10,7 +11,9 @@ pub enum Failure<'a> {
     BadWords(&'a anyhow::Error),
     // a file's name, and why it cannot be read
     Unreadable(&'a str, io::Error),
-    // no problem of the user's: want of memory, or a standard output that cannot be written
+    // why standard output cannot be written
+    Unwritten(io::Error),
+    // anything else, such as want of memory
     Other(anyhow::Error),
 }
 
@@ -21,8 +24,12 @@ impl<'a> From<Problem<'a>> for Failure<'a> {
 }
 
 impl<'a> From<io::Error> for Failure<'a> {
+    // files are read by calls that name them, so what fails here is writing, or taking memory
     fn from(error: io::Error) -> Failure<'a> {
-        Failure::Other(anyhow::Error::from(error))
+        match error.kind() {
+            ErrorKind::OutOfMemory => Failure::Other(anyhow::Error::from(error)),
+            _ => Failure::Unwritten(error),
+        }
     }
 }
 
@@ -40,6 +47,9 @@ impl<'a> Failure<'a> {
                 let reason = error.to_string(rt.alloc())?;
                 let problem = Problem::Unreadable(name, reason.as_str());
                 eprintln!(rt; "{problem}")?;
+            }
+            Failure::Unwritten(error) => {
+                eprintln!(rt; "neskvaru: cannot write the output: {error}")?;
             }
             Failure::Other(error) => return Err(error),
         }

@@ -35,6 +35,7 @@ const HELP: &str = "neskvaru cuts a bank's export into rows and tells, row by ro
   neskvaru print RULE FAMILY LAYOUT FILE             the file again, written from the reports of its rows alone
   neskvaru layout FAMILY LAYOUT                      the tree of a layout file, one node a line, or why it is refused
   neskvaru field FAMILY KIND P TEXT                  what reading TEXT as a field of that kind gives, or why it cannot be read
+  neskvaru help                                      this text, as -h, --help and neskvaru alone
 
 RULE is one of
   newline                  byte 0A ends a row; a closing row without it is a row all the same
@@ -47,9 +48,19 @@ FAMILY is one of
   pair:FAMILY:FAMILY       kinds 0 to 31 are the first family's, 32 to 63 the second's less 32
 
 LAYOUT is a layout file, which says what a row is made of; FILE, FIRST and RESENT are exports of at most 16777216 bytes.
+
+A row is ended, or unended: then the file ends before the newline that should end it, and the row is counted all the same.
+A row is kept where it was read without a fault, and else set aside. Scrap is the bytes of a row that no part of the layout
+took. The tail is the bytes behind all rows that belong to none.
 Rows and nodes count from 1, and bytes from 0: a fault 'at 3' is at the fourth byte of its row.
-What stops a command is told on standard error, with status 1. A match that finds a difference tells it on standard output, also with status 1.
-For example: neskvaru explain newline ascii samples/invoice.layout samples/invoices.csv
+
+What is refused has a number: 1 to 7 the layout file is wrong, 8 a file is too long, 9 a row has more than 4096 bytes,
+10 a row's report would have more than 512 lines at one time, 11 a number in RULE is out of range.
+The status is 0 where the command did its work, also where it found faulty rows. It is 1 where something stopped it,
+which is told on standard error; and where match finds a difference, which is told on standard output.
+
+For example: neskvaru explain newline ascii samples/invoice.layout samples/faulty.csv
+docs/PROGRAM.md has the output of each command, and every refusal with its number.
 ";
 
 // The words that name an export.
@@ -121,13 +132,22 @@ fn run_command<'a>(
     Ok(ExitCode::SUCCESS)
 }
 
+// Whether the first word asks how the program is used.
+fn asks_help(word: &str) -> bool {
+    matches!(word, "help" | "-h" | "--help")
+}
+
 // Does what the words ask, and answers the status; the first is the program's own name.
 fn run<'a>(rt: &HostRuntime, words: &'a [String]) -> Result<ExitCode, Failure<'a>> {
-    let [_, command, rest @ ..] = words else {
-        rt.print(HELP)?;
-        return Ok(ExitCode::SUCCESS);
-    };
-    run_command(rt, command.as_str(), rest)
+    match words {
+        [_, command, rest @ ..] if !asks_help(command.as_str()) => {
+            run_command(rt, command.as_str(), rest)
+        }
+        _ => {
+            rt.print(HELP)?;
+            Ok(ExitCode::SUCCESS)
+        }
+    }
 }
 
 // The words that the program was called with.
