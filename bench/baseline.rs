@@ -138,7 +138,7 @@ fn main() {
             "print" => rows(black_box(&file)).for_each(|row| {
                 count += 1;
                 match invoice(row) {
-                    Some(i) => printed += black_box(print(&i, &mut out)),
+                    Some(i) => printed += print(&i, black_box(&mut out)),
                     None => faulty += 1,
                 }
             }),

@@ -1,9 +1,9 @@
-// A program to measure with: it cuts, reads, or reads and prints an export so many times, and says what came.
+// A program to measure with: it cuts, reads, prints, files or matches an export so many times, and says what came.
 #![tactic(auto)]
 
 mod pass;
 
-use crate::pass::{Counts, Memory, Work};
+use crate::pass::{Counts, Files, Memory, Work};
 use layout::header::longest_file;
 use rows::file::LONGEST;
 use std::fs::File;
@@ -12,8 +12,8 @@ use std::{env, io};
 
 const HELP: &str = "bench WORK TIMES LAYOUT FILE
 
-WORK is cut, read, or print; rows end at byte 0A, and fields are of the ASCII family.
-Under 0 times the files are read and nothing else is done.
+WORK is cut, read, print, file, or match; rows end at byte 0A, and fields are of the ASCII family.
+Match is of the file and a second copy of it, and does not count rows. Under 0 times the files are read and nothing else is done.
 ";
 
 // The first bytes of a file, so many at most.
@@ -33,23 +33,32 @@ fn measure(
     file: &str,
 ) -> anyhow::Result<()> {
     let layout = read_up_to(rt, layout, longest_file() + 1)?;
-    let bytes = read_up_to(rt, file, LONGEST)?;
+    let export = read_up_to(rt, file, LONGEST)?;
+    let copy = read_up_to(rt, file, LONGEST)?;
     let mut memory = Memory::new(rt.alloc())?;
     if !memory.load(layout.as_slice()) {
         eprintln!(rt; "bench: the layout is refused")?;
         return Ok(());
     }
+    let files = Files {
+        layout: layout.as_slice(),
+        export: export.as_slice(),
+        copy: copy.as_slice(),
+    };
     let mut counts = Counts::NONE;
     for _ in 0..times {
-        counts = memory.pass(work, bytes.as_slice());
+        counts = memory.pass(work, files);
     }
     let Counts {
         rows,
         refused,
         faulty,
         printed,
+        differing,
     } = counts;
-    println!(rt; "rows {rows}, refused {refused}, faulty {faulty}, bytes printed {printed}")?;
+    println!(rt;
+        "rows {rows}, refused {refused}, faulty {faulty}, bytes printed {printed}, differing {differing}"
+    )?;
     Ok(())
 }
 
@@ -60,6 +69,8 @@ fn main(rt: HostRuntime) -> anyhow::Result<()> {
             "cut" => Some(Work::Cut),
             "read" => Some(Work::Read),
             "print" => Some(Work::Print),
+            "file" => Some(Work::File),
+            "match" => Some(Work::Match),
             _ => None,
         };
         if let (Some(work), Ok(times)) = (work, times.parse::<usize>()) {

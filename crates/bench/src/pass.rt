@@ -2,7 +2,12 @@
 ghost use Rattle.std.specs.Prelude.{◌≡◌, vec_len};
 
 use fields::ascii::Ascii;
+use import::answer::Matched;
+use import::import::Import;
+use import::import::matching::Matcher;
+use import::stage::How;
 use layout::table::Layout;
+use passes::pass::pass_next;
 use printer::print_framed;
 use reader::reader::Reader;
 use rows::file::LONGEST;
@@ -17,8 +22,14 @@ use store::memory::made::LONGEST_ROW;
 #[derive(Clone, Copy)]
 pub enum Work {
     Cut,
+    // by the reader alone
     Read,
+    // by the reader and the printer alone
     Print,
+    // an import opens it, reads it, and keeps it or sets it aside
+    File,
+    // it is matched with its copy
+    Match,
 }
 
 // What came of a pass.
@@ -29,6 +40,8 @@ pub struct Counts {
     // rows whose report counts a fault
     pub faulty: usize,
     pub printed: usize,
+    // matches that found a difference
+    pub differing: usize,
 }
 
 impl Counts {
@@ -37,7 +50,16 @@ impl Counts {
         refused: 0,
         faulty: 0,
         printed: 0,
+        differing: 0,
     };
+}
+
+// The files of a pass: the layout, the export, and a copy of the export.
+#[derive(Clone, Copy)]
+pub struct Files<'a> {
+    pub layout: &'a [u8],
+    pub export: &'a [u8],
+    pub copy: &'a [u8],
 }
 
 // All memory of a pass.
@@ -47,6 +69,8 @@ pub struct Memory {
     reader: Reader,
     report: Report,
     out: Vec<u8>,
+    import: Import<Ascii, Newline>,
+    matcher: Matcher<Ascii, Newline>,
 }
 
 impl Memory {
@@ -55,11 +79,15 @@ impl Memory {
         let reader = Reader::new(heap)?;
         let report = Report::new(heap)?;
         let out = vec![in heap; 0; LONGEST_ROW + 1]?;
+        let import = Import::empty(heap, Ascii, Newline::new())?;
+        let matcher = Matcher::new(heap, Ascii, Newline::new(), Ascii, Newline::new())?;
         Ok(Memory {
             layout,
             reader,
             report,
             out,
+            import,
+            matcher,
         })
     }
 
@@ -88,9 +116,8 @@ impl Memory {
         }
     }
 
-    // Goes over the rows of a file, and does the work with each. (A function of its own in the program that is built: what it costs is found under its name.)
-    #[inline(never)]
-    pub fn pass(&mut self, work: Work, file: &[u8]) -> Counts {
+    // Cuts a file into rows, and reads and prints them if that is the work.
+    fn go_over(&mut self, work: Work, file: &[u8]) -> Counts {
         let mut rule = Newline::new();
         rule.set(file);
         let mut counts = Counts::NONE;
@@ -101,10 +128,60 @@ impl Memory {
             };
             counts.rows = counts.rows.saturating_add(1);
             match work {
-                Work::Cut => {}
                 Work::Read | Work::Print => self.read(work, &rule, bytes, mark, &mut counts),
+                Work::Cut | Work::File | Work::Match => {}
             }
         }
         counts
+    }
+
+    // An import takes a file and files its rows.
+    fn file_rows(&mut self, layout: &[u8], file: &[u8]) -> Counts {
+        let mut counts = Counts::NONE;
+        if self.import.new(1, layout, Newline::new(), file).is_err() {
+            counts.refused = 1;
+            return counts;
+        }
+        for _ in 0..LONGEST {
+            let Ok(Some(row)) = pass_next(&mut self.import, file) else {
+                break;
+            };
+            counts.rows = counts.rows.saturating_add(1);
+            match (row.read, row.filed) {
+                (Err(_), _) => counts.refused = counts.refused.saturating_add(1),
+                (Ok(()), How::SetAside) => counts.faulty = counts.faulty.saturating_add(1),
+                (Ok(()), How::Kept) => {}
+            }
+        }
+        counts
+    }
+
+    // The export is matched with its copy.
+    fn match_copy(&mut self, files: Files<'_>) -> Counts {
+        let Files {
+            layout,
+            export,
+            copy,
+        } = files;
+        let mut counts = Counts::NONE;
+        let matched = self
+            .matcher
+            .match_resent(layout, Newline::new(), export, Newline::new(), copy);
+        match matched {
+            Ok(Matched::Same) => {}
+            Ok(Matched::Differs { .. }) => counts.differing = 1,
+            Err(_) => counts.refused = 1,
+        }
+        counts
+    }
+
+    // Does the work with the rows of an export. (A function of its own in the program that is built: what it costs is found under its name.)
+    #[inline(never)]
+    pub fn pass(&mut self, work: Work, files: Files<'_>) -> Counts {
+        match work {
+            Work::Cut | Work::Read | Work::Print => self.go_over(work, files.export),
+            Work::File => self.file_rows(files.layout, files.export),
+            Work::Match => self.match_copy(files),
+        }
     }
 }
