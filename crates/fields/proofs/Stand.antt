@@ -1,5 +1,6 @@
 -- What a good reading tells of its tests, and runs of digits before other bytes.
 use Rattle.std.proofs.Common.{◌≡◌, ℕ, zero, suc, ◌+◌, ◌/◌, ◌%◌, ◌^◌, ◌<◌, Bool, true, false, cond, List, [], ◌∷◌, ◌++◌, length, drop, ℤ, Ok, sym, refl, ap, ◌∙◌, arith, ◌-◌}
+use Rattle.std.specs.List.{prefix_len}
 use Rattle.std.proofs.lemmas.List.{take-append-drop, length-take-le}
 use Rattle.fields.specs.declared.cause.Cause.{Cause}
 use Rattle.fields.specs.declared.cause.Sort.TheVariants.{Numeric}
@@ -35,14 +36,17 @@ stands m Has Ends law s bs n z b e h k =
       ends = k;
     }
 
--- nothing of a run is left behind it
-run_done : (u : Bool) (b : ℕ) (bs : List ℕ) → is_digit b ≡ u → run (drop (run bs) bs) ≡ 0 → run (drop (cond u (1 + run bs) 0) (b ∷ bs)) ≡ 0
-run_done true b bs e h = let k : 1 + run bs ≡ suc (run bs) = omega arith in ap (λ j. run (drop j (b ∷ bs))) k ∙ h
-run_done false b bs e h = ap (λ x. cond x (1 + run bs) 0) e
+-- nothing of the longest beginning that passes a test is left behind it
+front_done : (t : ℕ → Bool) (u : Bool) (b : ℕ) (bs : List ℕ) → t b ≡ u → prefix_len t (drop (prefix_len t bs) bs) ≡ 0 → prefix_len t (drop (cond u (1 + prefix_len t bs) 0) (b ∷ bs)) ≡ 0
+front_done t true b bs e h = let k : 1 + prefix_len t bs ≡ suc (prefix_len t bs) = omega arith in ap (λ j. prefix_len t (drop j (b ∷ bs))) k ∙ h
+front_done t false b bs e h = ap (λ x. cond x (1 + prefix_len t bs) 0) e
+
+pub front_rest : (t : ℕ → Bool) (bs : List ℕ) → prefix_len t (drop (prefix_len t bs) bs) ≡ 0
+front_rest t [] = refl
+front_rest t (b ∷ bs) = front_done t (t b) b bs refl (front_rest t bs)
 
 pub run_rest : (bs : List ℕ) → run (drop (run bs) bs) ≡ 0
-run_rest [] = refl
-run_rest (b ∷ bs) = run_done (is_digit b) b bs refl (run_rest bs)
+run_rest bs = front_rest is_digit bs
 
 -- digits before other bytes
 pub run_append : (ds bs : List ℕ) → AreDigits ds → run (ds ++ bs) ≡ length ds + run bs

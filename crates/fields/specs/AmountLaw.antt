@@ -1,11 +1,11 @@
 -- An amount is spelled with the bytes that it was read from.
-use Rattle.std.specs.Prelude.{◌≡◌, ℕ, zero, suc, ◌+◌, ◌-◌, ◌*◌, ◌/◌, ◌%◌, ◌^◌, ◌<◌, ◌≤◌, Bool, true, false, cond, ◌&&◌, ◌||◌, List, [], ◌∷◌, ◌++◌, length, take, drop, ℤ, Ok, Err, decimal, ◌==◌, ◌≢◌, nat_lt, slice_index, unsigned_abs, refl}
+use Rattle.std.specs.Prelude.{◌≡◌, ℕ, zero, suc, ◌+◌, ◌-◌, ◌*◌, ◌/◌, ◌%◌, ◌^◌, ◌<◌, ◌≤◌, Bool, true, false, cond, ◌&&◌, ◌||◌, List, [], ◌∷◌, ◌++◌, length, take, drop, ℤ, Ok, Err, decimal, ◌==◌, ◌≢◌, nat_lt, slice_index, unsigned_abs, refl, nat_eq}
 use Rattle.std.proofs.Common.{sym, ap, ◌∙◌, mul-le-mul_right, suc-mul, arith, length-append, pow-add, take-add}
 use Rattle.std.proofs.Math.Nat.{pow-le-pow_right, one-le-pow}
 use Rattle.std.proofs.lemmas.List.{length-take-le, length-drop}
-use Rattle.std.proofs.lemmas.Bool.{eqb-true, eqb-false, ltb-true, ltb-false, and_parts, or_parts, and_from, not-false, not_from_true, ne_eqb, lt-ltb, le-ltb}
+use Rattle.std.proofs.lemmas.Bool.{eqb-true, eqb-false, ltb-true, ltb-false, and_parts, or_parts, and_from, not-false, not_from_true, not_from_false, ne_eqb, lt-ltb, le-ltb, eq-eqb}
 use Rattle.std.proofs.lemmas.Bool.Decides.{nat_tests}
-use Rattle.fields.specs.declared.cause.Cause.TheVariants.{SecondSpelling}
+use Rattle.fields.specs.declared.cause.Cause.TheVariants.{Form, Range, SecondSpelling}
 use Rattle.fields.specs.declared.cause.Sort.TheVariants.{Numeric}
 use Rattle.fields.specs.Meanings.{Reading}
 use Rattle.fields.specs.Laws.{Lawful}
@@ -38,6 +38,18 @@ pointed_len zero bs h = omega arith
 pointed_len (suc p) bs h =
     let t = and_parts (slice_index bs 0 == 46) (run (drop 1 bs) == suc p) h in
     omega (arith, eqb-true _ _ t.1, run_le (drop 1 bs), length-drop 1 bs)
+
+pub point_is : (p r : ℕ) (bs : List ℕ) → (p ≢ 0) → slice_index bs 0 ≡ 46 → r ≡ run (drop 1 bs) → (r == p) ≡ pointed p bs
+point_is zero r bs z h e = absurd (z refl)
+point_is (suc p) r bs z h e = ap (λ k. nat_eq k (suc p)) e ∙ ap (λ t. t && run (drop 1 bs) == suc p) (sym (eq-eqb (slice_index bs 0) 46 h))
+
+pub point_len_lem : (p : ℕ) → (p ≢ 0) → point_len p ≡ 1 + p
+point_len_lem zero z = absurd (z refl)
+point_len_lem (suc p) z = omega arith
+
+pub point_none : (p : ℕ) (bs : List ℕ) → p ≡ 0 → (pointed p bs ≡ true) × (0 ≡ value (take p (drop 1 bs))) × (point_len p ≡ 0)
+point_none zero bs z = (refl, refl, refl)
+point_none (suc p) bs z = absurd (omega arith)
 
 pub pointed_run : (p : ℕ) (bs : List ℕ) → pointed p bs ≡ true → p ≤ run (drop 1 bs)
 pointed_run zero bs h = omega arith
@@ -120,6 +132,12 @@ pub record Split (bs front after : List ℕ) (whole : ℕ) : Type 0 where
   pub whole_is : whole ≡ run (body bs)
   pub rest_is : after ≡ rest (body bs)
 
+pub split : (bs front after : List ℕ) (whole : ℕ) (t : Bool) → t ≡ minus bs → front ≡ drop (cond t 1 0) bs → whole ≡ run front → after ≡ drop whole front → Split bs front after whole
+split bs front after whole t m f w a =
+    let b : front ≡ body bs = f ∙ ap (λ u. drop (cond u 1 0) bs) m in
+    let r : whole ≡ run (body bs) = w ∙ ap run b in
+    record { body_is = b; whole_is = r; rest_is = a ∙ ap (drop whole) b ∙ ap (λ k. drop k (body bs)) r }
+
 pub formed_at : (p : ℕ) (bs front after : List ℕ) (whole : ℕ) → Split bs front after whole → (whole ≢ 0) → pointed p after ≡ true → formed p (body bs) ≡ true
 formed_at p bs front after whole s w h = and_from _ _ (lt-ltb 0 _ (omega (arith, s.whole_is))) (sym (ap (pointed p) s.rest_is) ∙ h)
 
@@ -131,6 +149,12 @@ units_at p bs front after whole v f s hv hf =
     cc
 
 -- ways that a reading ends
+pub no_form : (p : ℕ) (bs : List ℕ) → (length bs ≢ 0) → formed p (body bs) ≡ false → ◌≡◌ {A = Reading} (Err Form) ((amount p).reads bs)
+no_form p bs some f = refused 1 (amount_tests p bs) (amount_gives p bs) Form (ne_eqb _ _ some, (not_from_false _ f, refl))
+
+pub no_range : (p : ℕ) (bs : List ℕ) → (length bs ≢ 0) → formed p (body bs) ≡ true → 12 < run (body bs) + p → ◌≡◌ {A = Reading} (Err Range) ((amount p).reads bs)
+no_range p bs some f h = refused 2 (amount_tests p bs) (amount_gives p bs) Range (ne_eqb _ _ some, (not_from_true _ f, (lt-ltb 12 _ h, refl)))
+
 pub second_spelling : (p : ℕ) (bs : List ℕ) → (length bs ≢ 0) → formed p (body bs) ≡ true → run (body bs) + p ≤ 12 → (leads (body bs) || (minus bs && units p (body bs) == 0)) ≡ true → ◌≡◌ {A = Reading} (Err SecondSpelling) ((amount p).reads bs)
 second_spelling p bs some f h s = refused 3 (amount_tests p bs) (amount_gives p bs) SecondSpelling (ne_eqb _ _ some, (not_from_true _ f, (le-ltb 12 _ h, (s, refl))))
 

@@ -1,16 +1,17 @@
 -- A date is spelled with the ten bytes that it was read from.
-use Rattle.std.specs.Prelude.{◌≡◌, ℕ, ◌+◌, ◌*◌, ◌/◌, ◌%◌, ◌^◌, ◌<◌, ◌≤◌, true, List, [], ◌∷◌, ◌++◌, length, take, drop, Ok, slice_index, slice_index_or}
-use Rattle.std.proofs.Common.{sym, ap, ◌∙◌, arith, take-add}
+use Rattle.std.specs.Prelude.{◌≡◌, ℕ, ◌+◌, ◌*◌, ◌/◌, ◌%◌, ◌^◌, ◌<◌, ◌≤◌, true, false, List, [], ◌∷◌, ◌++◌, length, take, drop, Ok, Err, nat_le, slice_index, slice_index_or, refl}
+use Rattle.std.proofs.Common.{sym, ap, ◌∙◌, ⊎_elim, arith, take-add}
 use Rattle.std.proofs.lemmas.List.{length-take-le, drop_more}
-use Rattle.std.proofs.lemmas.Bool.{eqb-true, ltb-false, leb-true, and_parts, not-false, not_from_true, le-ltb}
+use Rattle.std.proofs.lemmas.Bool.{eqb-true, ltb-false, leb-true, and_parts, and_from, not-false, not_from_true, not_from_false, eq-eqb, le-ltb, cases_Bool}
+use Rattle.fields.specs.declared.cause.Cause.TheVariants.{Form, Range}
 use Rattle.fields.specs.declared.cause.Sort.TheVariants.{Numeric}
 use Rattle.fields.specs.Laws.{Lawful}
 use Rattle.fields.specs.Meanings.{Reading}
 use Rattle.fields.specs.Digits.{run, value, padded, digits_at, all_at}
 use Rattle.fields.specs.Calendar.{is_date}
 use Rattle.fields.specs.Dates.{formed, year, month, day, date_tests, date_gives, date_spells, date}
-use Rattle.fields.specs.Fairs.{kind_lawful, good}
-use Rattle.fields.specs.Runs.{padded_value, run_le, run_take, value_take}
+use Rattle.fields.specs.Fairs.{kind_lawful, refused, good}
+use Rattle.fields.specs.Runs.{padded_value, run_le, run_take, value_take, first_of, part_at}
 
 take_one : (i : ℕ) (bs : List ℕ) → i < length bs → take 1 (drop i bs) ≡ slice_index bs i ∷ []
 take_one i bs h = ap (take 1) (drop_more bs i 0 h)
@@ -71,6 +72,38 @@ date_lawful = kind_lawful Numeric date_tests date_gives date_spells λ bs r h.
     take-add 8 2 bs ∙ ap (λ x. x ++ take 2 (drop 8 bs)) (take-add 7 1 bs ∙ ap (λ x. x ++ take 1 (drop 7 bs)) (take-add 5 2 bs ∙ ap (λ x. x ++ take 2 (drop 5 bs)) (take-add 4 1 bs))) in
     (long, omega arith, cc)
 
--- a reading that is good
+pub not_formed : (bs : List ℕ) → (Formed bs → ⊥) → formed bs ≡ false
+not_formed bs h = ⊎_elim (λ t. absurd (h (formed_parts bs t))) (λ f. f) (cases_Bool (formed bs))
+
+-- ways that a reading ends
+pub no_form : (bs : List ℕ) → 10 ≤ length bs → formed bs ≡ false → ◌≡◌ {A = Reading} (Err Form) (date.reads bs)
+no_form bs l h = refused 1 (date_tests bs) (date_gives bs) Form (le-ltb (length bs) 10 l, (not_from_false (formed bs) h, refl))
+
+pub no_date : (bs : List ℕ) → 10 ≤ length bs → formed bs ≡ true → is_date (year bs) (month bs) (day bs) ≡ false → ◌≡◌ {A = Reading} (Err Range) (date.reads bs)
+no_date bs l h d = refused 2 (date_tests bs) (date_gives bs) Range (le-ltb (length bs) 10 l, (not_from_true (formed bs) h, (not_from_false _ d, refl)))
+
 pub good_date : (bs : List ℕ) → 10 ≤ length bs → formed bs ≡ true → is_date (year bs) (month bs) (day bs) ≡ true → ◌≡◌ {A = Reading} (Ok (date_gives bs)) (date.reads bs)
 good_date bs l h d = good (date_tests bs) (date_gives bs) (le-ltb (length bs) 10 l, (not_from_true (formed bs) h, (not_from_true _ d, tt)))
+
+-- the parts of a date at their places
+pub all_at_lem : (bs : List ℕ) (start k n at : ℕ) → at ≡ start + k → all_at at n bs ≡ all_at k n (drop start bs)
+all_at_lem bs start k n at e = ap (λ x. nat_le n (run x)) (part_at bs start k at e)
+
+pub value_at : (bs : List ℕ) (start k n at : ℕ) → at ≡ start + k → value (digits_at at n bs) ≡ value (digits_at k n (drop start bs))
+value_at bs start k n at e = ap (λ x. value (take n x)) (part_at bs start k at e)
+
+-- the parts of a date, where they stand
+pub record Parts (bs : List ℕ) (y m d : ℕ) : Type 0 where
+  pub form : formed bs ≡ true
+  pub years : y ≡ year bs
+  pub months : m ≡ month bs
+  pub days_of : d ≡ day bs
+
+pub parts_at : (bs b c d e : List ℕ) (y m k : ℕ) → b ≡ drop 4 bs → c ≡ drop 5 bs → d ≡ drop 7 bs → e ≡ drop 8 bs → (all_at 0 4 bs ≡ true) × (y ≡ value (take 4 bs)) → slice_index b 0 ≡ 45 →
+    (all_at 0 2 c ≡ true) × (m ≡ value (take 2 c)) → slice_index d 0 ≡ 45 → (all_at 0 2 e ≡ true) × (k ≡ value (take 2 e)) → Parts bs y m k
+parts_at bs b c d e y m k hb hc hd he hy h1 hm h2 hk = record {
+  form = and_from _ _ hy.0 (and_from _ _ (eq-eqb _ _ (first_of bs b 4 hb ∙ h1)) (and_from _ _ (sym (ap (λ x. nat_le 2 (run x)) hc) ∙ hm.0) (and_from _ _ (eq-eqb _ _ (first_of bs d 7 hd ∙ h2)) (sym (ap (λ x. nat_le 2 (run x)) he) ∙ hk.0))));
+  years = hy.1;
+  months = hm.1 ∙ ap (λ x. value (take 2 x)) hc;
+  days_of = hk.1 ∙ ap (λ x. value (take 2 x)) he;
+}

@@ -1,12 +1,31 @@
 -- Runs of digits, step by step, and their numbers.
-use Rattle.std.specs.Prelude.{◌≡◌, ℕ, cond, zero, suc, ◌+◌, ◌-◌, ◌*◌, ◌^◌, ◌<◌, ◌≤◌, Bool, true, false, List, [], ◌∷◌, ◌++◌, length, take, nat_le, slice_index, refl}
-use Rattle.std.proofs.Common.{ap, ◌∙◌, arith, rules}
-use Rattle.std.proofs.lemmas.List.{length-take-le, get_or-take}
+use Rattle.std.specs.Prelude.{◌≡◌, ℕ, cond, zero, suc, ◌+◌, ◌-◌, ◌*◌, ◌^◌, ◌<◌, ◌≤◌, Bool, true, false, List, [], ◌∷◌, ◌++◌, length, take, drop, nat_le, slice_index, refl, decimal}
+use Rattle.std.proofs.Common.{sym, ap, ◌∙◌, add-zero, arith, rules}
+use Rattle.std.proofs.lemmas.List.{length-take-le, get_or-drop, get_or-take, get_or_past, drop-drop}
 use Rattle.std.proofs.lemmas.List.Sums.{prefix_len-le-length}
 use Rattle.std.proofs.lemmas.Bool.{leb-true, and_parts, le-leb, and_from}
 use Rattle.std.proofs.lemmas.Str.Parse.{IsNumeralModel, IsDigitsTest, numerals_by_fold, digits_value_short}
+use Rattle.std.proofs.lemmas.Fmt.{digits_value-decimal, digits_decimal}
 use Rattle.fields.specs.PlaceValues.{EachFrom, number_push, places_number, length_places}
 use Rattle.fields.specs.Digits.{is_digit, run, AreDigits, value_on, value, padded}
+
+-- the first byte from a place on
+pub first_at : (bs : List ℕ) (at : ℕ) → slice_index (drop at bs) 0 ≡ slice_index bs at
+first_at bs at = get_or-drop at bs 0 0 ∙ ap (λ k. slice_index bs k) (add-zero at)
+
+pub first_past : (bs : List ℕ) (at : ℕ) → length bs ≤ at → slice_index (drop at bs) 0 ≡ 0
+first_past bs at h = first_at bs at ∙ get_or_past bs at 0 h
+
+-- the bytes at a place behind a start, as the bytes from the start on have them
+pub part_at : (bs : List ℕ) (start k at : ℕ) → at ≡ start + k → drop at bs ≡ drop k (drop start bs)
+part_at bs start k at e = ap (λ j. drop j bs) e ∙ sym (drop-drop k start bs)
+
+pub byte_at : (bs : List ℕ) (start k at : ℕ) → at ≡ start + k → slice_index (drop at bs) 0 ≡ slice_index (drop start bs) k
+byte_at bs start k at e = first_at bs at ∙ ap (λ j. slice_index bs j) e ∙ sym (get_or-drop start bs k 0)
+
+-- the first byte of what follows so many bytes
+pub first_of : (bs after : List ℕ) (n : ℕ) → after ≡ drop n bs → slice_index bs n ≡ slice_index after 0
+first_of bs after n e = sym (ap (λ x. slice_index x 0) e ∙ get_or-drop n bs 0 0 ∙ ap (λ k. slice_index bs k) (add-zero n))
 
 all_true : (t : Bool) (n m : ℕ) → n ≤ m → cond t (1 + n) 0 ≡ suc m → (t ≡ true) × (n ≡ m)
 all_true true n m h e = (refl, omega arith)
@@ -62,6 +81,9 @@ value_take n k bs h l = digits_value_short own (take n bs) k (run_take n bs h) (
 
 pub length_padded : (w n : ℕ) → length (padded w n) ≡ w
 length_padded w n = length_places 10 (λ b. b - 48) (λ d. 48 + d) w n
+
+pub padded_decimal : (n : ℕ) → n < 2 ^ 64 → padded (length (decimal n)) n ≡ decimal n
+padded_decimal n h = ap (padded (length (decimal n))) (sym (digits_value-decimal own n h)) ∙ padded_value (decimal n) (digits_decimal own n h)
 
 pub run_digit : (bs : List ℕ) (i : ℕ) → i < run bs → (48 ≤ slice_index bs i) × (slice_index bs i ≤ 57)
 run_digit bs i h =

@@ -29,6 +29,7 @@ pub enum BinaryKind {
 
 impl BinaryKind {
     // What a kind with its parameter is, if the family knows it.
+    #[inline(always)]
     fn of(kind: Kind) -> Option<BinaryKind>
         ensures means { means_as result ≡ binary_means kind.code kind.parameter }
         ensures table { sort_of result ≡ listed binary_table kind.code kind.parameter }
@@ -42,6 +43,7 @@ impl BinaryKind {
     }
 
     // How many bytes a field takes.
+    #[inline(always)]
     fn length(self) -> usize
         ensures { result ≡ taken_by self }
     {
@@ -52,6 +54,7 @@ impl BinaryKind {
     }
 
     // The number of a field.
+    #[inline(always)]
     fn number(self, field: &[u8]) -> i64
         requires { length field.now ≡ taken_by self }
         ensures { result ≡ number_as self field.now }
@@ -80,6 +83,8 @@ impl Family for Binary {
         }
     }
 
+    // (Put where it is called, as in the ASCII family.)
+    #[inline(always)]
     fn read(&self, kind: Kind, cursor: &mut Cursor) -> Reading
         ensures answer { result ≡ (binary_means kind.code kind.parameter).reads (unread cursor.old) }
         ensures place { Moved result cursor.old cursor.new }

@@ -22,6 +22,7 @@ impl<'a> Cursor<'a> {
     }
 
     // The bytes from the place on: none where it is past the end.
+    #[inline(always)]
     pub(crate) fn rest(&self) -> &'a [u8]
         ensures { result.now ≡ unread self.now }
     {
@@ -29,6 +30,7 @@ impl<'a> Cursor<'a> {
     }
 
     // Moves over so many bytes, which have to be there.
+    #[inline(always)]
     pub(crate) fn take(&mut self, count: usize) -> Result<&'a [u8], Cause>
         ensures { MatchResult result (λ x. (count ≤ length (unread self.old)) × (x.now ≡ first_bytes count (unread self.old)) × Ahead count self.old self.new) (λ e. (e ≡ Short) × (length (unread self.old) < count) × (self.new ≡ self.old)) }
     {

@@ -42,6 +42,7 @@ pub(crate) fn leading(bytes: &[u8]) -> (usize, u64)
 }
 
 // The number that bytes write with places in a base; `FIRST` is the byte of place 0.
+#[inline(always)]
 pub(crate) fn value<const BASE: u64, const FIRST: u8>(bytes: &[u8]) -> u64
     requires held { EachFrom BASE FIRST bytes.now }
     requires few { BASE ^ length bytes.now ≤ 2 ^ 48 }

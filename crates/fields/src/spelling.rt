@@ -6,7 +6,7 @@ ghost use Rattle.fields.specs.Places.{places_from};
 use crate::digits::fill;
 use itoa::write_digits;
 
-// How many decimal digits a number has. (Told by comparing alone: a loop over the powers of ten takes twice as long.)
+// How many decimal digits a number has. (Told by comparing alone: a loop over the powers of ten takes twice as long. Short numbers come first, apart from the others, or all comparisons are made for each.)
 #[inline]
 pub(crate) fn decimal_len(n: u64) -> usize
     ensures is { result ≡ length (decimal n) }
@@ -17,7 +17,19 @@ pub(crate) fn decimal_len(n: u64) -> usize
         10..=99 => 2,
         100..=999 => 3,
         1_000..=9_999 => 4,
-        10_000..=99_999 => 5,
+        _ => long_decimal_len(n),
+    }
+}
+
+// The same of a number of five digits or more.
+#[inline(never)]
+fn long_decimal_len(n: u64) -> usize
+    requires { 10000 ≤ n }
+    ensures is { result ≡ length (decimal n) }
+    ensures few { result ≤ 20 }
+{
+    match n {
+        0..=99_999 => 5,
         100_000..=999_999 => 6,
         1_000_000..=9_999_999 => 7,
         10_000_000..=99_999_999 => 8,

@@ -14,14 +14,20 @@ pub struct Width {
 }
 
 impl Width {
-    // How many numbers so many bytes can hold.
+    // How many numbers so many bytes can hold. (Looked up: a power is a loop.)
     fn full(self) -> u64
         ensures { result ≡ 256 ^ self.bytes }
     {
-        256u64.pow(u32::from(self.bytes))
+        match self.bytes {
+            1 => 256,
+            2 => 65_536,
+            3 => 16_777_216,
+            _ => 4_294_967_296,
+        }
     }
 
     // A number read as two's complement.
+    #[inline(always)]
     pub(crate) fn signed(self, n: u64) -> i64
         requires { n < 256 ^ self.bytes }
         ensures { result ≡ twos (256 ^ self.bytes) n }

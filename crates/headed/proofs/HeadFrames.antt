@@ -1,11 +1,12 @@
 -- Moving a row four places up and writing the header before it makes its frame.
-use Rattle.std.proofs.Common.{◌≡◌, ℕ, ◌+◌, ◌-◌, ◌≤◌, leb, true, ◌&&◌, List, ◌++◌, length, take, drop, Ok, sym, ap, ◌∙◌, arith}
+use Rattle.std.proofs.Common.{◌≡◌, ℕ, ◌+◌, ◌-◌, ◌≤◌, List, ◌++◌, length, take, drop, Ok, sym, ap, ◌∙◌, arith}
 use Rattle.std.proofs.lemmas.List.{append_assoc, length-drop, length-take-le, take-take, drop_at}
 use Rattle.rows.specs.Frames.{framed}
+use Rattle.rows.proofs.FrameLaws.{fits}
 use Rattle.headed.specs.Heads.{header}
 
 -- the beginning of a buffer, its last four bytes brought to the front
-abbrev turned : List ℕ → List ℕ
+abbrev pub turned : List ℕ → List ℕ
 turned xs = drop (length xs - 4) xs ++ take (length xs - 4) xs
 
 module _ (n end : ℕ) (b : List ℕ) (is : end ≡ n + 4) (room : end ≤ length b) where
@@ -24,8 +25,7 @@ module _ (n end : ℕ) (b : List ℕ) (is : end ≡ n + 4) (room : end ≤ lengt
   framed_row =
       let l : length (take n b) ≡ n = length-take-le n b (omega arith) in
       let k : length (header ++ take n b) ≡ end = omega arith in
-      let fits : (leb n (length b) && leb (length (header ++ take n b)) (length b)) ≡ true = grind arith in
-      rw fits (ap (λ i. (Ok i, (header ++ take n b) ++ drop i b)) (sym k))
+      ap (λ i. (Ok i, (header ++ take n b) ++ drop i b)) (sym k) ∙ sym (fits (λ row. header ++ row) n b (omega arith) (omega arith))
 
   pub row_behind : (moved filled : List ℕ) → moved ≡ turned (take end b) → filled ≡ header → (Ok end, filled ++ drop 4 (moved ++ drop end b)) ≡ framed (λ row. header ++ row) n b
   row_behind moved filled m f = rw (f, m, row_up) framed_row

@@ -1,2 +1,3 @@
 -- Lemmas of the header rule.
 pub mod HeadFrames
+pub mod HeadSteps

@@ -36,22 +36,21 @@ module _ (w p : ℕ) (file : List ℕ) where
         let k : p + w + m * w ≡ p + suc m * w = omega (arith, suc-mul m w) in
         ap (λ a. record { start = a; bytes = drop a file }) k ∙ ap (λ n. tail_of n w p file) (sym fewer)
 
--- what a place in the file has ahead
-module _ (w at : ℕ) (file : List ℕ) (inside : at ≤ length file) where
-  here : fixed_from w at file ≡ fixed_at w at file
-  here = ap (λ p. fixed_from w p file) (omega arith)
+-- what a place that may be past the file's end has ahead
+module _ (w at : ℕ) (file : List ℕ) (start : ℕ) (is : start ≡ min at (length file)) where
+  here : fixed_from w start file ≡ fixed_at w at file
+  here = ap (λ p. fixed_from w p file) is
 
-  pub tail_at : length file - at < w → TellsTail (fixed_at w at file) (rest_at at file)
+  pub tail_at : length file - start < w → TellsTail (fixed_at w at file) (rest_at at file)
   tail_at h =
-      let short = short_ahead w at file h in
-      let m : min at (length file) ≡ at = omega arith in
-      tells_tail (fixed_at w at file) _ (ap (λ c. c.rows) (sym here) ∙ short.0) (ap (λ p. record { start = p; bytes = drop p file }) m ∙ short.1 ∙ ap (λ c. c.tail) here)
+      let short = short_ahead w start file h in
+      tells_tail (fixed_at w at file) _ (ap (λ c. c.rows) (sym here) ∙ short.0) (ap (λ p. record { start = p; bytes = drop p file }) (sym is) ∙ short.1 ∙ ap (λ c. c.tail) here)
 
-  pub row_at : 1 ≤ w → w ≤ length file - at → HandsOut (fixed_at w at file) (record { start = at; bytes = take w (drop at file); mark = Ended }) (fixed_at w (at + w) file)
+  pub row_at : 1 ≤ w → w ≤ length file - start → HandsOut (fixed_at w at file) (record { start = start; bytes = take w (drop start file); mark = Ended }) (fixed_at w (start + w) file)
   row_at some h =
       let c = fixed_at w at file in
-      let next = fixed_from w (at + w) file in
-      let rows : c.rows ≡ record { start = at; bytes = take w (drop at file); mark = Ended } ∷ next.rows = ap (λ c. c.rows) (sym here) ∙ row_ahead w at file some h in
-      let same : fixed_at w (at + w) file ≡ record { rows = next.rows; tail = c.tail } =
-      ap (λ p. fixed_from w p file) (let e : min (at + w) (length file) ≡ at + w = omega arith in e) ∙ ap (λ t. record { rows = next.rows; tail = t }) (same_tail w at file some h ∙ ap (λ c. c.tail) here) in
+      let next = fixed_from w (start + w) file in
+      let rows : c.rows ≡ record { start = start; bytes = take w (drop start file); mark = Ended } ∷ next.rows = ap (λ c. c.rows) (sym here) ∙ row_ahead w start file some h in
+      let same : fixed_at w (start + w) file ≡ record { rows = next.rows; tail = c.tail } =
+      ap (λ p. fixed_from w p file) (let e : min (start + w) (length file) ≡ start + w = omega arith in e) ∙ ap (λ t. record { rows = next.rows; tail = t }) (same_tail w start file some h ∙ ap (λ c. c.tail) here) in
       rw same (hands_out c _ _ rows)

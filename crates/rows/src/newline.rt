@@ -1,5 +1,6 @@
 // The newline rule: byte 0A ends a row.
-ghost use Rattle.std.specs.Prelude.{◌≡◌, ℕ, List};
+ghost use Rattle.memchr.specs.Find.{IsFirst, IsFirstByte, Passes, is_byte};
+ghost use Rattle.std.specs.Prelude.{◌≡◌, ◌≤◌, ℕ, List, length};
 ghost use Rattle.rows.specs.Finds.{Finds};
 ghost use Rattle.rows.specs.Steps.{SetOn, Asked};
 ghost use Rattle.rows.specs.Told.{told};
@@ -11,7 +12,7 @@ use crate::frames::row_and;
 use crate::piece::{Found, Mark, Piece};
 use crate::refusal::Refusal;
 use crate::rule::RowRule;
-use memchr::memchr;
+use memchr::memchr_iter;
 
 // The byte that ends a row.
 pub const NEWLINE: u8 = 0x0A;
@@ -39,7 +40,43 @@ fn lacks_newline(row: &[u8]) -> bool
     !row.contains(&NEWLINE)
 }
 
+// Where the first 0A stands among the first eight bytes.
+#[inline(always)]
+fn near_newline(rest: &[u8]) -> Option<usize>
+    requires { 8 ≤ length rest.now }
+    ensures { IsFirst (Passes (is_byte 10) rest.now) 0 8 result }
+{
+    for i in 0..8 {
+        if rest[i] == NEWLINE {
+            return Some(i);
+        }
+    }
+    None
+}
+
+// Where the first 0A stands, 32 bytes at once and then more.
+#[inline(never)]
+fn far_newline(rest: &[u8]) -> Option<usize>
+    ensures { IsFirstByte (is_byte 10) rest.now result }
+{
+    memchr_iter(NEWLINE, rest).next()
+}
+
+// How many bytes stand before the first 0A, if there is one. (The first bytes are looked at one by one: a row of few bytes would wait for the search of many.)
+#[inline(always)]
+fn line_length(rest: &[u8]) -> Option<usize>
+    ensures { IsFirstByte (is_byte 10) rest.now result }
+{
+    if rest.len() >= 8 {
+        if let Some(length) = near_newline(rest) {
+            return Some(length);
+        }
+    }
+    far_newline(rest)
+}
+
 // The row at a place, or none where the file ends before it.
+#[inline(always)]
 fn row_at(file: &[u8], start: usize) -> Option<Found>
     ensures { Finds newline_from start file.now result }
 {
@@ -47,7 +84,7 @@ fn row_at(file: &[u8], start: usize) -> Option<Found>
         return None;
     }
     let rest = &file[start..];
-    match memchr(NEWLINE, rest) {
+    match line_length(rest) {
         Some(length) => Some(Found {
             start,
             bytes: &rest[..length],
@@ -76,6 +113,7 @@ impl RowRule for Newline {
         self.at = 0;
     }
 
+    #[inline(always)]
     fn next<'f>(&mut self, file: &'f [u8]) -> Piece<'f>
         ensures { Asked file.now (told result) newline_meaning newline_meaning (newline_from self.old.at) (newline_from self.new.at) }
     {
