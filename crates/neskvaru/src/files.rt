@@ -4,13 +4,15 @@ use std::fs::File;
 use std::io;
 use std::io::Read;
 
-// The room for a file that tells no length, as a pipe; it is also what the first read asks for at least.
-const LEAST_ROOM: usize = 4_096;
+// The room for a file that tells no length, as a pipe. A full list grows by an eighth at first, and is doubled then: from this room on to 8,193 bytes times a power of two, so that a file of a power of two leaves room to look for its end.
+const LEAST_ROOM: usize = 7_283;
 
-// The first bytes of a file, so many at most; no more is read. The memory is taken once, by the length that the file tells, with one byte more: a full list would be doubled to look for the end.
+// The first bytes of a file, so many at most; no more is read. Room is taken for the length that the file tells, if it tells one, and for one byte more: a full list grows to look for the end.
 pub fn read_up_to(rt: &HostRuntime, name: &str, most: usize) -> io::Result<Vec<u8>> {
     let file = File::open(rt, name)?;
-    let length = usize::try_from(file.metadata()?.len()).unwrap_or(most);
+    let length = file
+        .metadata()
+        .map_or(0, |told| usize::try_from(told.len()).unwrap_or(most));
     let room = length.min(most).saturating_add(1).max(LEAST_ROOM);
     let mut bytes = Vec::with_capacity(rt.alloc(), room)?;
     file.take(most as u64).read_to_end(&mut bytes)?;
