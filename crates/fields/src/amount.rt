@@ -1,5 +1,5 @@
 // Amounts: an optional minus, a run of digits and, for decimals, a point and a run of exactly so many digits.
-ghost use Rattle.std.specs.Prelude.{◌≡◌, length, unsigned_abs, ◌/◌, ◌%◌, ◌+◌, ◌*◌, ◌^◌, ◌<◌, ◌≤◌, true, false, take, drop, MatchOption};
+ghost use Rattle.std.specs.Prelude.{◌≡◌, length, unsigned_abs, ◌/◌, ◌%◌, ◌+◌, ◌*◌, ◌^◌, ◌<◌, ◌≤◌, true, false, take, drop, decimal, MatchOption};
 ghost use Rattle.fields.specs.Cursors.{unread, Moved};
 ghost use Rattle.fields.specs.Digits.{value as value_of};
 ghost use Rattle.fields.specs.Amounts.{minus, body, pointed, point_len, signed, minus_of, point_of, amount, amount_spells};
@@ -154,21 +154,35 @@ impl Decimals {
         }
     }
 
-    // How many bytes an amount is spelled with, by its number in front of the point.
+    // How many bytes an amount is spelled with, by how many digits stand in front of the point.
     #[inline(always)]
-    fn len_with(self, number: i64, front: u64) -> usize
-        requires { front ≡ unsigned_abs number / 10 ^ self.count }
+    fn len_with(self, number: i64, digits: usize) -> usize
+        requires is { digits ≡ length (decimal (unsigned_abs number / 10 ^ self.count)) }
+        requires few { digits ≤ 20 }
         ensures { result ≡ length (amount_spells self.count number) }
     {
-        sign_len(number) + decimal_len(front) + self.point_len()
+        sign_len(number) + digits + self.point_len()
+    }
+
+    // How many digits stand in front of the point. (One digit is told without a division.)
+    #[inline]
+    fn front_len(self, n: u64) -> usize
+        ensures is { result ≡ length (decimal (n / 10 ^ self.count)) }
+        ensures few { result ≤ 20 }
+    {
+        let scale = self.scale();
+        if n < 10 * scale {
+            1
+        } else {
+            decimal_len(n / scale)
+        }
     }
 
     // How many bytes an amount is spelled with.
     pub(crate) fn spelled_len(self, number: i64) -> usize
         ensures { result ≡ length (amount_spells self.count number) }
     {
-        let (front, _) = self.apart(number.unsigned_abs());
-        self.len_with(number, front)
+        self.len_with(number, self.front_len(number.unsigned_abs()))
     }
 
     // Writes the point and the digits behind it at a place.
@@ -184,11 +198,12 @@ impl Decimals {
     }
 
     // Writes the sign, the digits before the point, and the point with the digits behind it.
+    #[inline(always)]
     pub(crate) fn spell(self, number: i64, out: &mut [u8]) -> Result<usize, TooShort>
         ensures { (result, out.new) ≡ written (amount_spells self.count number) out.old }
     {
         let (front, fraction) = self.apart(number.unsigned_abs());
-        let len = self.len_with(number, front);
+        let len = self.len_with(number, decimal_len(front));
         if out.len() < len {
             return Err(TooShort);
         }

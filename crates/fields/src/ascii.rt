@@ -86,6 +86,8 @@ impl Family for Ascii {
         }
     }
 
+    // (Spelling a whole number or an amount is put where it is called too: where the kind is known there, little of it is left.)
+    #[inline(always)]
     fn spell(&self, kind: Kind, number: i64, out: &mut [u8]) -> Result<usize, TooShort>
         ensures { (result, out.new) ≡ written ((ascii_means kind.code kind.parameter).spells number) out.old }
     {

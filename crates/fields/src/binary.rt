@@ -83,7 +83,7 @@ impl Family for Binary {
         }
     }
 
-    // (Put where it is called, as in the ASCII family.)
+    // (This and what it calls are put where they are called, as in the ASCII family.)
     #[inline(always)]
     fn read(&self, kind: Kind, cursor: &mut Cursor) -> Reading
         ensures answer { result ≡ (binary_means kind.code kind.parameter).reads (unread cursor.old) }

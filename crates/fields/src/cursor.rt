@@ -21,7 +21,7 @@ impl<'a> Cursor<'a> {
         Cursor { bytes, place: 0 }
     }
 
-    // The bytes from the place on: none where it is past the end.
+    // The bytes from the place on: none where it is past the end. (This and the next are put where they are called, as reading a field is.)
     #[inline(always)]
     pub(crate) fn rest(&self) -> &'a [u8]
         ensures { result.now ≡ unread self.now }

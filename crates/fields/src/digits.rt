@@ -41,7 +41,7 @@ pub(crate) fn leading(bytes: &[u8]) -> (usize, u64)
     (len, n)
 }
 
-// The number that bytes write with places in a base; `FIRST` is the byte of place 0.
+// The number that bytes write with places in a base; `FIRST` is the byte of place 0. (Put where it is called, as reading a field is: there the base and mostly the count are known.)
 #[inline(always)]
 pub(crate) fn value<const BASE: u64, const FIRST: u8>(bytes: &[u8]) -> u64
     requires held { EachFrom BASE FIRST bytes.now }

@@ -67,6 +67,8 @@ impl<A: Family, B: Family> Family for Pair<A, B> {
         }
     }
 
+    // (Put where it is called, as in the ASCII family.)
+    #[inline(always)]
     fn spell(&self, kind: Kind, number: i64, out: &mut [u8]) -> Result<usize, TooShort>
         ensures { (result, out.new) ≡ written ((pair_means (A.Family.means self.now.first) (B.Family.means self.now.second) kind.code kind.parameter).spells number) out.old }
     {

@@ -72,11 +72,15 @@ pub(crate) fn put_places<const BASE: u64, const FIRST: u8>(
     fill::<BASE, FIRST>(n, &mut out[at..at + width]);
 }
 
-// Writes the digits of a number at a place; `end` is the place behind them.
+// Writes the digits of a number at a place; `end` is the place behind them. (One digit is written straight: the library's writer of many would take longer than all the rest.)
 #[inline]
 pub(crate) fn put_decimal(n: u64, at: usize, end: usize, out: &mut [u8])
     requires { (at + length (decimal n) ≡ end) × (end ≤ length out.old) }
     ensures { out.new ≡ over at (decimal n) out.old }
 {
-    write_digits(n, out, end);
+    if n < 10 {
+        put_byte(b'0' + n as u8, at, out);
+    } else {
+        write_digits(n, out, end);
+    }
 }

@@ -54,6 +54,7 @@ pub(crate) fn whole_len(number: i64) -> usize
 }
 
 // Writes the digits of a whole number.
+#[inline(always)]
 pub(crate) fn spell_whole(number: i64, out: &mut [u8]) -> Result<usize, TooShort>
     ensures { (result, out.new) ≡ written (whole_spells number) out.old }
 {

@@ -26,7 +26,7 @@ impl Width {
         }
     }
 
-    // A number read as two's complement.
+    // A number read as two's complement. (Put where it is called, as reading a field is.)
     #[inline(always)]
     pub(crate) fn signed(self, n: u64) -> i64
         requires { n < 256 ^ self.bytes }

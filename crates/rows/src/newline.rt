@@ -40,7 +40,7 @@ fn lacks_newline(row: &[u8]) -> bool
     !row.contains(&NEWLINE)
 }
 
-// Where the first 0A stands among the first eight bytes.
+// Where the first 0A stands among the first eight bytes. (This and what cuts a row around it are put where they are called: for a row of few bytes the calls would take longer than the look.)
 #[inline(always)]
 fn near_newline(rest: &[u8]) -> Option<usize>
     requires { 8 ≤ length rest.now }
@@ -54,7 +54,7 @@ fn near_newline(rest: &[u8]) -> Option<usize>
     None
 }
 
-// Where the first 0A stands, 32 bytes at once and then more.
+// Where the first 0A stands, 32 bytes at once and then more. (A call, so that what is put where rows are cut stays short.)
 #[inline(never)]
 fn far_newline(rest: &[u8]) -> Option<usize>
     ensures { IsFirstByte (is_byte 10) rest.now result }

@@ -78,7 +78,7 @@ impl<'f> Piece<'f> {
         }
     }
 
-    // The row found at a place, which then goes on to the next frame, or else the tail from that place.
+    // The row found at a place, which then goes on to the next frame, or else the tail from that place. (Put where it is called: a call would hand the row on through memory.)
     #[inline(always)]
     pub(crate) fn found_at(file: &'f [u8], at: &mut usize, found: Option<Found<'f>>) -> Piece<'f>
         ensures { MatchOption found.entry ((told result ≡ rest_at at.old file.now) × (at.new ≡ at.old)) (λ f. (told result ≡ row (row_of f)) × (at.new ≡ f.next)) }

@@ -12,5 +12,5 @@ returns c =
     let fits : FitsSigned w64 z = search rules in
     let e = to_z-of_z w64 z fits in
     let s : c.sign_len.result ≡ length (minus_of z) = c.sign_len.ensures.is ∙ ap (λ x. length (minus_of x)) e in
-    let d : c.decimal_len.result ≡ length (decimal (unsigned_abs z / 10 ^ p)) = c.decimal_len.ensures.is ∙ ap (λ k. length (decimal k)) c.requires in
+    let d : c.args.digits ≡ length (decimal (unsigned_abs z / 10 ^ p)) = c.requires.is in
     omega (arith, length_amount p z, s, d, c.point_len.ensures.is)
